@@ -1,3 +1,4 @@
 pub mod Bytes
 pub mod Input
 pub mod Reads
+pub mod Output
