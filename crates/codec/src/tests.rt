@@ -1,5 +1,7 @@
 //! Bytes at their edges.
 use crate::InputError;
+use crate::input::InputErrorDebug;
+use crate::input::InputErrorPartialEq;
 use crate::query_in;
 use crate::refused;
 use crate::tables_in;
