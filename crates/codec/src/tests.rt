@@ -28,7 +28,10 @@ fn the_first_faulty_table_is_told(rt: LibcRuntime) -> Result<(), Fail> {
     check_eq(fault(heap, &[1, 33, 1]), Some(InputError::Table(0))).note("33 rows")?;
     check_eq(fault(heap, &[1, 1, 0]), Some(InputError::Table(0))).note("no column")?;
     check_eq(fault(heap, &[1, 1, 5]), Some(InputError::Table(0))).note("five columns")?;
-    check_eq(fault(heap, &[1, 1, 1, 1, 2, 3, 4, 5, 6, 7]), Some(InputError::Table(0))).note("a byte short")
+    check_eq(
+        fault(heap, &[1, 1, 1, 1, 2, 3, 4, 5, 6, 7]),
+        Some(InputError::Table(0)),
+    ).note("a byte short")
 }
 
 #[test]
@@ -43,10 +46,18 @@ fn tables_are_read_low_byte_first(rt: LibcRuntime) -> Result<(), Fail> {
 fn a_query_is_cut_off_at_an_operator(rt: LibcRuntime) -> Result<(), Fail> {
     let heap = rt.alloc();
     check_eq(cut(heap, &[]), Some(InputError::Operator(0))).note("no query")?;
-    check_eq(cut(heap, &[2, 0, 0, 0, 0, 0, 0]), Some(InputError::Operator(1))).note("an operator is missing")?;
-    check_eq(cut(heap, &[1, 0, 0, 0, 0, 0]), Some(InputError::Operator(0))).note("an operator is cut off")?;
+    check_eq(
+        cut(heap, &[2, 0, 0, 0, 0, 0, 0]),
+        Some(InputError::Operator(1)),
+    ).note("an operator is missing")?;
+    check_eq(
+        cut(heap, &[1, 0, 0, 0, 0, 0]),
+        Some(InputError::Operator(0)),
+    ).note("an operator is cut off")?;
     check_eq(cut(heap, &[17, 0, 0]), Some(InputError::Operator(16))).note("too many, and cut off")?;
-    let query = query_in(heap, &[1, 0, 1, 255, 0, 0, 0, 3]).ok().ok_or("the query is there")?;
+    let query = query_in(heap, &[1, 0, 1, 255, 0, 0, 0, 3])
+        .ok()
+        .ok_or("the query is there")?;
     check_eq(query.numbers.as_slice(), &[0, 1, 255, 0, 0, 0])?;
     check_eq(query.rest, &[3])
 }
