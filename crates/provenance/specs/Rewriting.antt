@@ -57,8 +57,18 @@ pub record Project-rewrites (ts : List (List Row)) (p q : Query) (cs ds : List �
   pub in-union : Same-provenance ts (project cs (union p q)) (union (project cs p) (project cs q))
   pub composed : All (λ a. a < length cs) ds → Same-provenance ts (project ds (project cs q)) (project (cells ds cs) q)
 
--- all these rewritings leave the provenance of every row equal
+-- q′ is q, with p′ in place of p at some of the places where p stands in it
+pub data Replaced (p p′ : Query) : Query → Query → Type 0 where
+  here : Replaced p p′ p p′
+  unchanged : {q : Query} → Replaced p p′ q q
+  in-select : {q q′ : Query} (c : Test) → Replaced p p′ q q′ → Replaced p p′ (select c q) (select c q′)
+  in-project : {q q′ : Query} (cs : List ℕ) → Replaced p p′ q q′ → Replaced p p′ (project cs q) (project cs q′)
+  in-product : {q q′ s s′ : Query} → Replaced p p′ q q′ → Replaced p p′ s s′ → Replaced p p′ (product q s) (product q′ s′)
+  in-union : {q q′ s s′ : Query} → Replaced p p′ q q′ → Replaced p p′ s s′ → Replaced p p′ (union q s) (union q′ s′)
+
+-- all these rewritings leave the provenance of every row equal, and they may be made anywhere inside a query
 pub record Rewriting : Type 0 where
   pub moved : (ts : List (List Row)) (p q s : Query) (c d : Test) → Rewrites ts p q s c d
   pub pushed-in : (ts : List (List Row)) (p q : Query) (c : Test) (w : ℕ) → Wide ts p w → Push-in ts p q c w
   pub projected : (ts : List (List Row)) (p q : Query) (cs ds : List ℕ) (c : Test) → Project-rewrites ts p q cs ds c
+  pub inside : (ts : List (List Row)) (p p′ q q′ : Query) → Same-provenance ts p p′ → Replaced p p′ q q′ → Same-provenance ts q q′
