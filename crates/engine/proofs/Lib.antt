@@ -1,0 +1,6 @@
+pub mod Behind
+pub mod Inverse
+pub mod Weights
+pub mod Running
+pub mod RunningTwo
+pub mod Fitting

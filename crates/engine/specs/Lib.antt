@@ -1,0 +1,4 @@
+pub mod Stages
+pub mod Given
+pub mod Done
+pub mod Weighed

@@ -1,0 +1,3 @@
+pub mod Readying
+pub mod Regions
+pub mod Answering

@@ -1,0 +1,14 @@
+pub mod Apart
+pub mod Loading
+pub mod Together
+pub mod Distinct
+pub mod Writing
+pub mod Joining
+pub mod Rises
+pub mod Extending
+pub mod Underway
+pub mod Ordering
+pub mod Whole
+pub mod Positive
+pub mod Answering
+pub mod Sums

@@ -1,0 +1,9 @@
+pub mod Slots
+pub mod Regions
+pub mod Growing
+pub mod Changing
+pub mod Noting
+pub mod Scanning
+pub mod Pairing
+pub mod Turns
+pub mod Storing

@@ -1,0 +1,4 @@
+pub mod Memory
+pub mod Notes
+pub mod Appended
+pub mod Paired
