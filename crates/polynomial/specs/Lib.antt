@@ -1,0 +1,4 @@
+pub mod Rise
+pub mod Ways
+pub mod Told
+pub mod Fronts

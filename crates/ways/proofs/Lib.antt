@@ -1,0 +1,5 @@
+pub mod Nothing
+mod Wanting
+mod Expanding
+mod Lines
+mod Flattened

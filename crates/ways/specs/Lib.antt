@@ -1,0 +1,4 @@
+pub mod Passes
+pub mod Asked
+pub mod Text
+pub mod Numbers
