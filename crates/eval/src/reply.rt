@@ -1,5 +1,4 @@
 //! What is replied to a query.
-ghost use mathlib.Core.Path.{_≡_};
 
 /// Why a query is turned away, with what tells the place.
 #[derive(Clone, Copy, PartialEq, Eq, Debug)]

@@ -1,0 +1,3 @@
+//! Tests of asking, at its edges.
+#[cfg(test)]
+mod tests;
