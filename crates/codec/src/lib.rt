@@ -10,6 +10,7 @@ pub use input::InputError;
 pub use output::refused;
 pub use query_form::query_in;
 pub use tables_form::tables_in;
+pub use words::push_words;
 
 #[cfg(test)]
 mod tests;

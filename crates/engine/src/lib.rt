@@ -13,3 +13,6 @@ pub use stage::Stage;
 pub use weighing::weigh;
 pub use weighing::weigh_in;
 pub use whole::run_weighed;
+
+#[cfg(test)]
+mod tests;

@@ -28,8 +28,8 @@ module _ {V : Type 0} (a : Algebra V) (vs : List V) (m asked : List ℕ) where
     pub each : (j : ℕ) → j < length asked → getD xs j (a .zero) ≡ value-at a vs m (getD asked j 0)
 
   -- what is told: the values, or why there are none
-  abbrev pub Answers : Result (Vec V Global) ReadError → Type 0
-  Answers r = Cases r (λ xs. Reads (vec-items xs)) (Not-read a vs m asked)
+  abbrev pub Read-told : Result (Vec V Global) ReadError → Type 0
+  Read-told r = Cases r (λ xs. Reads (vec-items xs)) (Not-read a vs m asked)
 
   -- v has the values that are given at the marks that are needed, and any lawful values elsewhere
   pub record Agrees (v : ℕ → V) : Type 0 where

@@ -3,7 +3,7 @@ ghost use Rattle.std.specs.Of.Vec.{vec-items};
 ghost use Rattle.std.specs.Vec.{made};
 ghost use Rattle.semiring.specs.Algebra.{set-algebra};
 ghost use Rattle.semiring.specs.Meanings.{Sets-mean};
-ghost use Rattle.semiring.specs.Readings.{Answers};
+ghost use Rattle.semiring.specs.Readings.{Read-told};
 use crate::ReadError;
 use crate::Semiring;
 use crate::read;
@@ -46,7 +46,7 @@ pub fn read_sets(
     asked: &[u64],
     values: &[u64],
 ) -> Result<Vec<u64>, ReadError>
-    ensures read { λ r. ⌜ Answers set-algebra (now (values .entry)) (now (nodes .entry)) (now (asked .entry)) r ⌝ }
+    ensures read { λ r. ⌜ Read-told set-algebra (now (values .entry)) (now (nodes .entry)) (now (asked .entry)) r ⌝ }
     ensures means { λ r. ⌜ made r (λ xs. Sets-mean (now (values .entry)) (now (nodes .entry)) (now (asked .entry)) (vec-items xs)) ⌝ }
 {
     read(heap, &Sets, nodes, asked, values)

@@ -3,7 +3,7 @@ ghost use Rattle.std.specs.Of.Vec.{vec-items};
 ghost use Rattle.std.specs.Vec.{made};
 ghost use Rattle.semiring.specs.Algebra.{count-algebra};
 ghost use Rattle.semiring.specs.Meanings.{Counts-mean};
-ghost use Rattle.semiring.specs.Readings.{Answers};
+ghost use Rattle.semiring.specs.Readings.{Read-told};
 use crate::ReadError;
 use crate::Semiring;
 use crate::read;
@@ -46,7 +46,7 @@ pub fn read_counts(
     asked: &[u64],
     values: &[u64],
 ) -> Result<Vec<u64>, ReadError>
-    ensures read { λ r. ⌜ Answers count-algebra (now (values .entry)) (now (nodes .entry)) (now (asked .entry)) r ⌝ }
+    ensures read { λ r. ⌜ Read-told count-algebra (now (values .entry)) (now (nodes .entry)) (now (asked .entry)) r ⌝ }
     ensures means { λ r. ⌜ made r (λ xs. Counts-mean (now (values .entry)) (now (nodes .entry)) (now (asked .entry)) (vec-items xs)) ⌝ }
 {
     read(heap, &Counts, nodes, asked, values)

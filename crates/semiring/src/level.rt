@@ -3,7 +3,7 @@ ghost use Rattle.std.specs.Of.Vec.{vec-items};
 ghost use Rattle.std.specs.Vec.{made};
 ghost use Rattle.semiring.specs.Algebra.{level-algebra};
 ghost use Rattle.semiring.specs.Meanings.{Levels-mean};
-ghost use Rattle.semiring.specs.Readings.{Answers};
+ghost use Rattle.semiring.specs.Readings.{Read-told};
 use crate::ReadError;
 use crate::Semiring;
 use crate::read;
@@ -49,7 +49,7 @@ pub fn read_levels(
     asked: &[u64],
     values: &[u64],
 ) -> Result<Vec<u64>, ReadError>
-    ensures read { λ r. ⌜ Answers (level-algebra top) (now (values .entry)) (now (nodes .entry)) (now (asked .entry)) r ⌝ }
+    ensures read { λ r. ⌜ Read-told (level-algebra top) (now (values .entry)) (now (nodes .entry)) (now (asked .entry)) r ⌝ }
     ensures means { λ r. ⌜ made r (λ xs. Levels-mean top (now (values .entry)) (now (nodes .entry)) (now (asked .entry)) (vec-items xs)) ⌝ }
 {
     read(heap, &Levels { top }, nodes, asked, values)

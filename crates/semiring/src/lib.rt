@@ -1,4 +1,5 @@
-//! Reading the nodes of a circuit in any semiring.
+//! Reading the nodes of a circuit in any semiring. `read` is proved once, for whatever implements `Semiring`; counts, levels, prices and
+//! sets of cases are four that do, each with a function of its own.
 mod cases;
 mod count;
 mod errors;

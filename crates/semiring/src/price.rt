@@ -3,7 +3,7 @@ ghost use Rattle.std.specs.Of.Vec.{vec-items};
 ghost use Rattle.std.specs.Vec.{made};
 ghost use Rattle.semiring.specs.Algebra.{price-algebra};
 ghost use Rattle.semiring.specs.Meanings.{Prices-mean};
-ghost use Rattle.semiring.specs.Readings.{Answers};
+ghost use Rattle.semiring.specs.Readings.{Read-told};
 use crate::ReadError;
 use crate::Semiring;
 use crate::read;
@@ -55,7 +55,7 @@ pub fn read_prices(
     asked: &[u64],
     values: &[Price],
 ) -> Result<Vec<Price>, ReadError>
-    ensures read { λ r. ⌜ Answers price-algebra (now (values .entry)) (now (nodes .entry)) (now (asked .entry)) r ⌝ }
+    ensures read { λ r. ⌜ Read-told price-algebra (now (values .entry)) (now (nodes .entry)) (now (asked .entry)) r ⌝ }
     ensures means { λ r. ⌜ made r (λ xs. Prices-mean (now (values .entry)) (now (nodes .entry)) (now (asked .entry)) (vec-items xs)) ⌝ }
 {
     read(heap, &Prices, nodes, asked, values)

@@ -4,7 +4,7 @@ ghost use Rattle.std.specs.Of.Vec.{vec-items};
 ghost use Rattle.std.specs.Vec.{made};
 ghost use Rattle.circuit.specs.Held.{Names-earlier};
 ghost use Rattle.semiring.specs.Parts.{Checks-nodes, Chosen, Marks-valued, Checks-marks, Valued, Tries-node, Evaluates, Within, Picked};
-ghost use Rattle.semiring.specs.Readings.{Answers, Worth-told};
+ghost use Rattle.semiring.specs.Readings.{Read-told, Worth-told};
 use crate::ReadError;
 use crate::Semiring;
 use crate::errors::ReadErrorFromAlloc;
@@ -104,7 +104,8 @@ fn pick<V: Copy>(heap: Global, done: &[V], asked: &[u64]) -> Result<Vec<V>, Allo
     Ok(picked)
 }
 
-/// What each of the nodes asked for is worth in a semiring, if the mark k is worth `values[k]`.
+/// What each of the nodes asked for is worth in a semiring, if the mark k is worth `values[k]`. The store is gone through once for all of
+/// them, and only the nodes that they need are evaluated.
 pub fn read<S: Semiring>(
     heap: Global,
     semiring: &S,
@@ -112,7 +113,7 @@ pub fn read<S: Semiring>(
     asked: &[u64],
     values: &[S::Value],
 ) -> Result<Vec<S::Value>, ReadError>
-    ensures read { λ r. ⌜ Answers (algebra (now (semiring .entry))) (now (values .entry)) (now (nodes .entry)) (now (asked .entry)) r ⌝ }
+    ensures read { λ r. ⌜ Read-told (algebra (now (semiring .entry))) (now (values .entry)) (now (nodes .entry)) (now (asked .entry)) r ⌝ }
     ensures worth { λ r. ⌜ Worth-told (algebra (now (semiring .entry))) (now (values .entry)) (now (nodes .entry)) (now (asked .entry)) r ⌝ }
 {
     if let Err(node) = check_nodes(nodes, asked) {

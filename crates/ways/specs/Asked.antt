@@ -43,7 +43,7 @@ pub record Given (m : List ℕ) (i room : ℕ) (ws : List Way) : Type 0 where
   pub ways : monomials ws ≡ normal-at m i
   pub fits : Fits-in room (normal-at m i)
 
--- the ways, or why they are refused, unless there is no memory
+-- the ways, or why they are refused; want of memory is told only of a node that the store has
 abbrev pub Asked : List ℕ → ℕ → ℕ → Result (Vec Way Global) WaysError → Type 0
 Asked m i room (Ok ws) = Given m i room (vec-items ws)
-Asked m i room (Err e) = Cases (refusal e) (Unit {0}) (Refused m i room)
+Asked m i room (Err e) = Cases (refusal e) (Sound m × (i < count-in m)) (Refused m i room)

@@ -11,11 +11,12 @@ pub use text::line;
 /// Why no ways are given.
 #[derive(Clone, Copy, PartialEq, Eq, Debug)]
 pub enum WaysError {
-    /// There was no memory.
+    /// There was no memory. This has no number.
     Memory,
-    /// The first node of the store at which it cannot be read; or else the node asked for, which the store does not have.
+    /// Refusal 7, at this place: the first node of the store that cannot be read; or else the node asked for, which the store
+    /// does not have.
     Node(u64),
-    /// The normal form takes more numbers than this room, or a count passes 2^64 - 1.
+    /// Refusal 10, at this room and one more: the normal form takes more numbers than the room, or a count passes 2^64 - 1.
     Room(usize),
 }
 

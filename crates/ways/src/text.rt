@@ -12,7 +12,8 @@ use std::fmt;
 
 /// Writes each number with `before` before it.
 fn write_led(text: &mut String, before: &str, numbers: &[u64]) -> fmt::Result
-    ensures { λ r. ⌜ made r (λ _. string-bytes (now (text .exit)) ≡ string-bytes (now (text .entry)) ++ led (now (before .entry)) (now (numbers .entry))) ⌝ }
+    ensures { λ r. ⌜ made r (λ _. string-bytes (now (text .exit)) ≡
+        string-bytes (now (text .entry)) ++ led (now (before .entry)) (now (numbers .entry))) ⌝ }
 {
     for number in numbers {
         write!(text, "{before}{number}")?;
@@ -22,7 +23,8 @@ fn write_led(text: &mut String, before: &str, numbers: &[u64]) -> fmt::Result
 
 /// Writes numbers with `between` between them.
 fn write_parted(text: &mut String, between: &str, numbers: &[u64]) -> fmt::Result
-    ensures { λ r. ⌜ made r (λ _. string-bytes (now (text .exit)) ≡ string-bytes (now (text .entry)) ++ parted (now (between .entry)) (now (numbers .entry))) ⌝ }
+    ensures { λ r. ⌜ made r (λ _. string-bytes (now (text .exit)) ≡
+        string-bytes (now (text .entry)) ++ parted (now (between .entry)) (now (numbers .entry))) ⌝ }
 {
     if numbers.is_empty() {
         return Ok(());
@@ -54,7 +56,8 @@ fn write_marks(text: &mut String, marks: &[u64]) -> fmt::Result
 
 /// Writes each way with a blank before it.
 fn write_ways(text: &mut String, ways: &[Way]) -> fmt::Result
-    ensures { λ r. ⌜ made r (λ _. string-bytes (now (text .exit)) ≡ string-bytes (now (text .entry)) ++ ways-text (monomials (now (ways .entry)))) ⌝ }
+    ensures { λ r. ⌜ made r (λ _. string-bytes (now (text .exit)) ≡
+        string-bytes (now (text .entry)) ++ ways-text (monomials (now (ways .entry)))) ⌝ }
 {
     for way in ways {
         write!(text, " ")?;
@@ -66,7 +69,8 @@ fn write_ways(text: &mut String, ways: &[Way]) -> fmt::Result
 
 /// Writes a row and its ways: the cells with blanks between them, a colon, and each way with a blank before it.
 fn write_line(text: &mut String, row: &[u64], ways: &[Way]) -> fmt::Result
-    ensures { λ r. ⌜ made r (λ _. string-bytes (now (text .exit)) ≡ string-bytes (now (text .entry)) ++ line-text (now (row .entry)) (monomials (now (ways .entry)))) ⌝ }
+    ensures { λ r. ⌜ made r (λ _. string-bytes (now (text .exit)) ≡
+        string-bytes (now (text .entry)) ++ line-text (now (row .entry)) (monomials (now (ways .entry)))) ⌝ }
 {
     write_parted(text, " ", row)?;
     write!(text, ":")?;

@@ -1,0 +1,10 @@
+pub mod Together
+pub mod Forms
+pub mod Places
+pub mod Skipping
+pub mod Turning
+pub mod Pairs
+pub mod Moved
+pub mod Alike
+pub mod Whole
+pub mod Kept

@@ -1,0 +1,5 @@
+pub mod Written
+pub mod Measured
+pub mod Steps
+pub mod Backward
+pub mod RoundTrip

@@ -1,0 +1,4 @@
+pub mod Form
+pub mod Reads
+pub mod RoundTrip
+pub mod Rows
