@@ -1,5 +1,5 @@
 //! Reads tables and then queries from standard input, and answers each query: a line for each row, with the ways in which it comes
-//! about.
+//! about. With a file named as its argument, it also writes the stored answers there.
 use codec::InputError;
 use codec::query_in;
 use codec::refused;
@@ -7,9 +7,14 @@ use codec::tables_in;
 use eval::Reply;
 use eval::ask;
 use query::parse;
+use std::alloc::AllocError;
 use std::alloc::Global;
+use std::env;
 use std::error::AnyError;
+use std::fs;
 use std::io::Read;
+use stored::Answer;
+use stored::encode;
 use ways::WaysError;
 use ways::line;
 use ways::ways;
@@ -37,8 +42,45 @@ fn row_line(heap: Global, nodes: &[u64], row: &[u64]) -> Result<String, AnyError
     }
 }
 
-/// The answer to one query over some tables.
-fn answer(rt: &LibcRuntime, tables: &[u64], signs: &[u64]) -> Result<(), AnyError> {
+/// The first `used` numbers of a memory.
+fn front(heap: Global, memory: &[u64], used: usize) -> Result<Vec<u64>, AllocError> {
+    Vec::from_slice(heap, &memory[0..used.min(memory.len())])
+}
+
+/// The answer that memory holds, to be stored.
+fn kept(
+    heap: Global,
+    width: usize,
+    nodes: &[u64],
+    out: &[u64],
+    count: usize,
+) -> Result<Answer, AnyError> {
+    let Some(stored) = nodes.first() else {
+        return Err("no nodes".into());
+    };
+    let nodes = front(
+        heap,
+        nodes,
+        (*stored as usize).saturating_mul(3).saturating_add(1),
+    )?;
+    let rows = front(
+        heap,
+        out,
+        width
+            .saturating_add(1)
+            .saturating_mul(count)
+            .saturating_add(1),
+    )?;
+    Ok(Answer { width, nodes, rows })
+}
+
+/// Answers one query over some tables, and adds what is to be stored of it.
+fn answer(
+    rt: &LibcRuntime,
+    tables: &[u64],
+    signs: &[u64],
+    answers: &mut Vec<Answer>,
+) -> Result<(), AnyError> {
     let heap = rt.alloc();
     let mut work = [0; WORK];
     let mut nodes = [0; NODES];
@@ -52,6 +94,7 @@ fn answer(rt: &LibcRuntime, tables: &[u64], signs: &[u64]) -> Result<(), AnyErro
             for row in out[1..].chunks(width.saturating_add(1)).take(count) {
                 rt.println(row_line(heap, &nodes, row)?)?;
             }
+            answers.push(kept(heap, width, &nodes, &out, count)?)?;
         }
     }
     Ok(())
@@ -67,7 +110,7 @@ fn refusal(heap: Global, error: InputError) -> Result<String, AnyError> {
 }
 
 /// Answers the queries of the input one after the other, with an empty line between two.
-fn run(rt: &LibcRuntime) -> Result<(), AnyError> {
+fn run(rt: &LibcRuntime, answers: &mut Vec<Answer>) -> Result<(), AnyError> {
     let heap = rt.alloc();
     let mut input = Vec::new(heap);
     rt.stdin().read_to_end(&mut input)?;
@@ -87,7 +130,12 @@ fn run(rt: &LibcRuntime) -> Result<(), AnyError> {
                 return Ok(());
             }
         };
-        answer(rt, tables.numbers.as_slice(), query.numbers.as_slice())?;
+        answer(
+            rt,
+            tables.numbers.as_slice(),
+            query.numbers.as_slice(),
+            answers,
+        )?;
         rest = query.rest;
         if rest.is_empty() {
             break;
@@ -97,6 +145,18 @@ fn run(rt: &LibcRuntime) -> Result<(), AnyError> {
     Ok(())
 }
 
+/// Answers all queries, and stores the answers in the file that the arguments name, if they name one.
+fn run_and_store(rt: &LibcRuntime) -> Result<(), AnyError> {
+    let heap = rt.alloc();
+    let mut answers = Vec::new(heap);
+    run(rt, &mut answers)?;
+    for file in env::args(rt)?.skip(1).take(1) {
+        let bytes = encode(heap, answers.as_slice())?;
+        fs::write(rt, file.as_str(), bytes.as_slice())?;
+    }
+    Ok(())
+}
+
 fn main(rt: LibcRuntime) -> Result<(), AnyError> {
-    rt.report(run(&rt))
+    rt.report(run_and_store(&rt))
 }

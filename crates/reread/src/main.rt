@@ -43,7 +43,8 @@ fn words(rt: &LibcRuntime) -> Result<Vec<String>, AnyError> {
 fn complaint(error: ArgumentError) -> &'static str {
     match error {
         ArgumentError::NoMemory => "no memory",
-        ArgumentError::UnknownRule => "the first word is none of count, level, price, sets and without",
+        ArgumentError::UnknownRule =>
+            "the first word is none of count, level, price, sets and without",
         ArgumentError::NoTop => "level needs the highest class, as in level 3",
         ArgumentError::NoSetting => "a word is no MARK=VALUE and no else=VALUE",
         ArgumentError::NoNumber => "a mark or a value is no number below 2^64",

@@ -167,7 +167,7 @@ module _ (ws : List ℕ) (ts : List (List Row)) (rows : Of-widths ws ts) where
       let a = product-shown n q _ e in let b = product-shown n (a .0) _ (a .3) in
       alike-by (a .2 ∙ ap (λ l. product l (a .1)) (b .2)) (b .3)
       (other-way (product (b .0) (product (b .1) (a .1))) (product (product (b .0) (b .1)) (a .1))
-       (rewriting .moved ts (b .0) (b .1) (a .1) (same 0 0) (same 0 0) .products-regrouped))
+      (rewriting .moved ts (b .0) (b .1) (a .1) (same 0 0) (same 0 0) .products-regrouped))
   turned-alike SwapUnion {q = q} n t e =
       let a = union-shown n q _ e in
       alike-by (a .2) (a .3) (rewriting .moved ts (a .0) (a .1) (a .1) (same 0 0) (same 0 0) .unions-swapped)

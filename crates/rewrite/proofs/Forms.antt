@@ -185,11 +185,11 @@ stands-there {ws} ys (scanned {six = six} t s h) =
 stands-there {ws} {xs} {q} {w} ys (changing {six = six} {xs = us} {q = p} {v = v} c s g i) =
     rw (append-assoc six us ys)
     (at-one c (operator-front six (us ++ ys) (s .long) ∙ s .is) g
-     (subst (λ zs. Stands-in ws zs p v ys) (sym (drop-at six (us ++ ys) 6 (s .long))) (stands-there ys i)))
+    (subst (λ zs. Stands-in ws zs p v ys) (sym (drop-at six (us ++ ys) 6 (s .long))) (stands-there ys i)))
 stands-there {ws} ys (pairing {six = six} {xs = us} {ys = vs} {l = l} {u = u} j s g i k) =
     rw (append-assoc six (us ++ vs) ys, append-assoc us vs ys)
     (at-two j (operator-front six (us ++ (vs ++ ys)) (s .long) ∙ s .is) g
-     (subst (λ zs. Stands-in ws zs l u (vs ++ ys)) (sym (drop-at six (us ++ (vs ++ ys)) 6 (s .long))) (stands-there (vs ++ ys) i)) (stands-there ys k))
+    (subst (λ zs. Stands-in ws zs l u (vs ++ ys)) (sym (drop-at six (us ++ (vs ++ ys)) 6 (s .long))) (stands-there (vs ++ ys) i)) (stands-there ys k))
 
 -- what stands there is read
 pub reads-there : {ws xs : List ℕ} {q : Query} {w : ℕ} {ys : List ℕ} → Stands-in ws xs q w ys → (fuel n : ℕ) → length xs ≤ 6 * fuel →

@@ -107,7 +107,7 @@ module _ (ws before at was now six rest : List ℕ) (r : Option ℕ) where
       (before ++ (six₂ ++ (six₃ ++ (rest₂ ++ []))))
       (ap (turned ws TestBelowProjection) (k .is ∙ ap (select (test-of c)) (k₂ .is)) ∙ ap (λ t. Some (project (take n cs) (select t (k₂ .inner)))) (sym i))
       (changing (Project n cs) (b₂ .sign) (ap Some (u .1) ∙ k₂ .fits)
-       (changing (Select d) sign (select-some d (k₂ .from) (k₂ .from) fits refl) (k₂ .written)))
+      (changing (Select d) sign (select-some d (k₂ .from) (k₂ .from) fits refl) (k₂ .written)))
       (ap (λ us. before ++ (six₂ ++ (six₃ ++ (us ++ [])))) (k₂ .parts) ∙ simp (append-assoc, append-nil))
       put
 
@@ -121,7 +121,7 @@ module _ (ws before at was now six rest : List ℕ) (r : Option ℕ) where
       let u = project-fits n ds (k .from) w (k .fits) in
       let v = project-fits m cs (k₂ .from) (k .from) (k₂ .fits) in
       let kept : take n es ≡ cells (take n ds) (take m cs) =
-          ap (take n) i ∙ take-at (cells (take n ds) (take m cs)) more n (length-cells (take n ds) (take m cs) ∙ kept-long six n ds (b .sign) (u .few)) in
+      ap (take n) i ∙ take-at (cells (take n ds) (take m cs)) more n (length-cells (take n ds) (take m cs) ∙ kept-long six n ds (b .sign) (u .few)) in
       let long : k .from ≡ length (take m cs) = v .width ∙ sym (kept-long six₂ m cs (b₂ .sign) (v .few)) in
       let there = cells-below (k₂ .from) (take n ds) (take m cs) (v .below) (ap (λ v. all-below v (take n ds)) (sym long) ∙ u .below) in
       made ws JoinProjections before q w after was now r (project (take n es) (k₂ .inner)) (six₃ ++ k₂ .signs)

@@ -88,7 +88,7 @@ module _ (ws before at was now six rest : List ℕ) (r : Option ℕ) (c : Test) 
       (before ++ (six₂ ++ (six ++ (rest₂ ++ []))))
       (ap (turned ws SwapTests) (k .is ∙ ap (select (test-of c)) (k₂ .is)))
       (changing (Select d) (b₂ .sign) (select-some d (k₂ .from) w (v .0) (u .1 ∙ v .1))
-       (changing (Select c) (b .sign) (select-some c (k₂ .from) (k₂ .from) (ap (test-fits c) (sym (v .1)) ∙ u .0) refl) (k₂ .written)))
+      (changing (Select c) (b .sign) (select-some c (k₂ .from) (k₂ .from) (ap (test-fits c) (sym (v .1)) ∙ u .0) refl) (k₂ .written)))
       (ap (λ us. before ++ (six₂ ++ (six ++ (us ++ [])))) (k₂ .parts) ∙ simp (append-assoc, append-nil))
       put
 
@@ -110,7 +110,7 @@ module _ (ws before at was now six rest : List ℕ) (r : Option ℕ) (c : Test) 
         let no : behind (width ws (k₂ .left)) (test-of c) ≡ false = ap (λ v. behind v (test-of c)) (written-width (k₂ .left-written) ∙ sym (l .width)) ∙ n in
         not-turned ws TestIntoRight before q w after was
         (ap (turned ws TestIntoRight) (k .is ∙ ap (select (test-of c)) (k₂ .is))
-         ∙ ap (λ t. pick t (Some (product (k₂ .left) (select (earlier (width ws (k₂ .left)) (test-of c)) (k₂ .right)))) None) no)
+        ∙ ap (λ t. pick t (Some (product (k₂ .left) (select (earlier (width ws (k₂ .left)) (test-of c)) (k₂ .right)))) None) no)
 
     pub test-into-left-made : within (x .width) (test-of c) ≡ true →
         Puts (before ++ (six₂ ++ (six ++ (rest₂ ++ [])))) was now r → Turns ws TestIntoLeft before at was now r
@@ -122,14 +122,14 @@ module _ (ws before at was now six rest : List ℕ) (r : Option ℕ) (c : Test) 
         let v = product-fits (k₂ .left-width) (k₂ .right-width) (k .from) (k₂ .fits) in
         let yes : within (width ws (k₂ .left)) (test-of c) ≡ true = ap (λ v. within v (test-of c)) (written-width (k₂ .left-written) ∙ sym (l .width)) ∙ h in
         let fits : test-fits c (k₂ .left-width) ≡ true =
-            within-fits c (k₂ .left-width) (ap (λ v. within v (test-of c)) (sym (written-width (k₂ .left-written))) ∙ yes) in
+        within-fits c (k₂ .left-width) (ap (λ v. within v (test-of c)) (sym (written-width (k₂ .left-written))) ∙ yes) in
         made ws TestIntoLeft before q w after was now r (product (select (test-of c) (k₂ .left)) (k₂ .right))
         (six₂ ++ ((six ++ k₂ .left-signs) ++ k₂ .right-signs))
         (before ++ (six₂ ++ (six ++ (rest₂ ++ []))))
         (ap (turned ws TestIntoLeft) (k .is ∙ ap (select (test-of c)) (k₂ .is))
-         ∙ ap (λ t. pick t (Some (product (select (test-of c) (k₂ .left)) (k₂ .right))) None) yes)
+        ∙ ap (λ t. pick t (Some (product (select (test-of c) (k₂ .left)) (k₂ .right))) None) yes)
         (pairing Product (b₂ .sign) (product-some (k₂ .left-width) (k₂ .right-width) w (u .1 ∙ v .1) (omega (arith, u .1, v .1, v .0)))
-         (changing (Select c) (b .sign) (select-some c (k₂ .left-width) (k₂ .left-width) fits refl) (k₂ .left-written)) (k₂ .right-written))
+        (changing (Select c) (b .sign) (select-some c (k₂ .left-width) (k₂ .left-width) fits refl) (k₂ .left-written)) (k₂ .right-written))
         (ap (λ us. before ++ (six₂ ++ (six ++ (us ++ [])))) (k₂ .parts) ∙ simp (append-assoc, append-nil))
         put
 
@@ -146,16 +146,16 @@ module _ (ws before at was now six rest : List ℕ) (r : Option ℕ) (c : Test) 
         let yes : behind (width ws (k₂ .left)) (test-of c) ≡ true = ap (λ v. behind v (test-of c)) (sym wide) ∙ h in
         let moved : test-of d ≡ earlier (width ws (k₂ .left)) (test-of c) = i ∙ ap (λ v. earlier v (test-of c)) wide in
         let fits : test-fits d (k₂ .right-width) ≡ true =
-            behind-fits c d (k₂ .left-width) (k₂ .right-width) (ap (test-fits c) (sym (v .1)) ∙ u .0) (ap (λ v. behind v (test-of c)) (sym (l .width)) ∙ h)
-            (i ∙ ap (λ v. earlier v (test-of c)) (l .width)) in
+        behind-fits c d (k₂ .left-width) (k₂ .right-width) (ap (test-fits c) (sym (v .1)) ∙ u .0) (ap (λ v. behind v (test-of c)) (sym (l .width)) ∙ h)
+        (i ∙ ap (λ v. earlier v (test-of c)) (l .width)) in
         made ws TestIntoRight before q w after was now r (product (k₂ .left) (select (test-of d) (k₂ .right)))
         (six₂ ++ (k₂ .left-signs ++ (six₃ ++ k₂ .right-signs)))
         (before ++ (six₂ ++ (x .signs .now ++ (six₃ ++ (x .rest .now ++ [])))))
         (ap (turned ws TestIntoRight) (k .is ∙ ap (select (test-of c)) (k₂ .is))
-         ∙ ap (λ t. pick t (Some (product (k₂ .left) (select (earlier (width ws (k₂ .left)) (test-of c)) (k₂ .right)))) None) yes
-         ∙ ap (λ t. Some (product (k₂ .left) (select t (k₂ .right)))) (sym moved))
+        ∙ ap (λ t. pick t (Some (product (k₂ .left) (select (earlier (width ws (k₂ .left)) (test-of c)) (k₂ .right)))) None) yes
+        ∙ ap (λ t. Some (product (k₂ .left) (select t (k₂ .right)))) (sym moved))
         (pairing Product (b₂ .sign) (product-some (k₂ .left-width) (k₂ .right-width) w (u .1 ∙ v .1) (omega (arith, u .1, v .1, v .0)))
-         (k₂ .left-written) (changing (Select d) sign (select-some d (k₂ .right-width) (k₂ .right-width) fits refl) (k₂ .right-written)))
+        (k₂ .left-written) (changing (Select d) sign (select-some d (k₂ .right-width) (k₂ .right-width) fits refl) (k₂ .right-written)))
         (rw (l .signs, l .rest) (simp (append-assoc, append-nil)))
         put
 
@@ -174,7 +174,7 @@ module _ (ws before at was now six rest : List ℕ) (r : Option ℕ) (c : Test) 
       (before ++ (six₂ ++ (six ++ (x .signs .now ++ (six ++ (x .rest .now ++ []))))))
       (ap (turned ws TestIntoUnion) (k .is ∙ ap (select (test-of c)) (k₂ .is)))
       (pairing Union (b₂ .sign) (union-some (k₂ .left-width) (k₂ .right-width) w (v .0) (u .1 ∙ v .1))
-       (changing (Select c) (b .sign) (select-some c (k₂ .left-width) (k₂ .left-width) on-left refl) (k₂ .left-written))
-       (changing (Select c) (b .sign) (select-some c (k₂ .right-width) (k₂ .right-width) on-right refl) (k₂ .right-written)))
+      (changing (Select c) (b .sign) (select-some c (k₂ .left-width) (k₂ .left-width) on-left refl) (k₂ .left-written))
+      (changing (Select c) (b .sign) (select-some c (k₂ .right-width) (k₂ .right-width) on-right refl) (k₂ .right-written)))
       (rw (l .signs, l .rest) (simp (append-assoc, append-nil)))
       put

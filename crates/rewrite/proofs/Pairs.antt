@@ -101,8 +101,8 @@ module _ (ws before at was now : List ℕ) (r : Option ℕ) where
           (before ++ (six ++ (six₂ ++ (x .signs .now ++ (rest₂ ++ [])))))
           (ap (turned ws RegroupLeft) (k .is ∙ ap (product (k .left)) (k₂ .is)))
           (pairing Product (b .sign) (product-some a (k₂ .right-width) w (omega (arith, u .1, v .1)) (omega (arith, u .0, u .1)))
-           (pairing Product (b₂ .sign) (product-some (k .left-width) (k₂ .left-width) a refl (omega (arith, u .0, v .1))) (k .left-written) (k₂ .left-written))
-           (k₂ .right-written))
+          (pairing Product (b₂ .sign) (product-some (k .left-width) (k₂ .left-width) a refl (omega (arith, u .0, v .1))) (k .left-written) (k₂ .left-written))
+          (k₂ .right-written))
           (ap (λ us. before ++ (six ++ (six₂ ++ (x .signs .now ++ (us ++ []))))) (k₂ .parts) ∙ rw (l .signs) (simp (append-assoc, append-nil)))
           put
 
@@ -121,10 +121,10 @@ module _ (ws before at was now : List ℕ) (r : Option ℕ) where
           (before ++ (six₂ ++ (six ++ (x .signs .now ++ (y .signs .now ++ (six ++ (x .signs .now ++ (y .rest .now ++ []))))))))
           (ap (turned ws UnionOutOfRight) (k .is ∙ ap (product (k .left)) (k₂ .is)))
           (pairing Union (b₂ .sign) (union-some w w w refl refl)
-           (pairing Product (b .sign) (product-some (k .left-width) (k₂ .left-width) w (omega (arith, u .1, v .1)) (omega (arith, u .0, u .1)))
-            (k .left-written) (k₂ .left-written))
-           (pairing Product (b .sign) (product-some (k .left-width) (k₂ .right-width) w (omega (arith, u .1, v .1, v .0)) (omega (arith, u .0, u .1)))
-            (k .left-written) (k₂ .right-written)))
+          (pairing Product (b .sign) (product-some (k .left-width) (k₂ .left-width) w (omega (arith, u .1, v .1)) (omega (arith, u .0, u .1)))
+          (k .left-written) (k₂ .left-written))
+          (pairing Product (b .sign) (product-some (k .left-width) (k₂ .right-width) w (omega (arith, u .1, v .1, v .0)) (omega (arith, u .0, u .1)))
+          (k .left-written) (k₂ .right-written)))
           (rw (l .signs, m .signs, m .rest) (simp (append-assoc, append-nil)))
           put
 
@@ -156,7 +156,7 @@ module _ (ws before at was now : List ℕ) (r : Option ℕ) where
         (before ++ (six ++ (x .signs .now ++ (six₂ ++ (x .rest .now ++ [])))))
         (ap (turned ws RegroupRight) (k .is ∙ ap (λ l. product l (k .right)) (k₂ .is)))
         (pairing Product (b .sign) (product-some (k₂ .left-width) a w (omega (arith, u .1, v .1)) (omega (arith, u .0, u .1))) (k₂ .left-written)
-         (pairing Product (b₂ .sign) (product-some (k₂ .right-width) (k .right-width) a refl (omega (arith, u .0, v .1))) (k₂ .right-written) (k .right-written)))
+        (pairing Product (b₂ .sign) (product-some (k₂ .right-width) (k .right-width) a refl (omega (arith, u .0, v .1))) (k₂ .right-written) (k .right-written)))
         (rw (l .signs, l .rest) (simp (append-assoc, append-nil)))
         put
 
@@ -177,9 +177,9 @@ module _ (ws before at was now : List ℕ) (r : Option ℕ) where
         (before ++ (six₂ ++ (six ++ (x .signs .now ++ (z .signs .now ++ (six ++ (y .signs .now ++ (y .rest .now ++ []))))))))
         (ap (turned ws UnionOutOfLeft) (k .is ∙ ap (λ l. product l (k .right)) (k₂ .is)))
         (pairing Union (b₂ .sign) (union-some w w w refl refl)
-         (pairing Product (b .sign) (product-some (k₂ .left-width) (k .right-width) w (omega (arith, u .1, v .1)) (omega (arith, u .0, u .1)))
-          (k₂ .left-written) (k .right-written))
-         (pairing Product (b .sign) (product-some (k₂ .right-width) (k .right-width) w (omega (arith, u .1, v .1, v .0)) (omega (arith, u .0, u .1)))
-          (k₂ .right-written) (k .right-written)))
+        (pairing Product (b .sign) (product-some (k₂ .left-width) (k .right-width) w (omega (arith, u .1, v .1)) (omega (arith, u .0, u .1)))
+        (k₂ .left-written) (k .right-written))
+        (pairing Product (b .sign) (product-some (k₂ .right-width) (k .right-width) w (omega (arith, u .1, v .1, v .0)) (omega (arith, u .0, u .1)))
+        (k₂ .right-written) (k .right-written)))
         (rw (l .signs, n .signs, m .signs, m .rest) (simp (append-assoc, append-nil)))
         put

@@ -149,8 +149,8 @@ module _ {ws six xs ys : List ℕ} {l r : Query} {u v w : ℕ} (j : Pairing) (i 
     written = a .written;
     put = λ zs q t.
         let whole : six ++ ((a .before ++ (zs ++ a .after)) ++ ys) ≡ (six ++ a .before) ++ (zs ++ (a .after ++ ys)) =
-            ap (λ us. six ++ us) (append-assoc (a .before) (zs ++ a .after) ys ∙ ap (λ us. a .before ++ us) (append-assoc zs (a .after) ys))
-            ∙ sym (append-assoc six (a .before) _) in
+        ap (λ us. six ++ us) (append-assoc (a .before) (zs ++ a .after) ys ∙ ap (λ us. a .before ++ us) (append-assoc zs (a .after) ys))
+        ∙ sym (append-assoc six (a .before) _) in
         rw (put-left j i l r q h) (subst (λ us. Written ws us (paired j (put-at i q l) r) w) whole (pairing j s g (a .put zs q t) rw′));
     sized = λ q.
         rw (put-left j i l r q h, size-paired j (put-at i q l) r)
@@ -173,7 +173,7 @@ module _ {ws six xs ys : List ℕ} {l r : Query} {u v w : ℕ} (j : Pairing) (i 
     written = a .written;
     put = λ zs q t.
         let whole : six ++ (xs ++ (a .before ++ (zs ++ a .after))) ≡ (six ++ (xs ++ a .before)) ++ (zs ++ a .after) =
-            ap (λ us. six ++ us) (sym (append-assoc xs (a .before) _)) ∙ sym (append-assoc six (xs ++ a .before) _) in
+        ap (λ us. six ++ us) (sym (append-assoc xs (a .before) _)) ∙ sym (append-assoc six (xs ++ a .before) _) in
         rw (put-right j i l r q h) (subst (λ us. Written ws us (paired j l (put-at (i - size l) q r)) w) whole (pairing j s g lw (a .put zs q t)));
     sized = λ q.
         rw (put-right j i l r q h, size-paired j l (put-at (i - size l) q r))

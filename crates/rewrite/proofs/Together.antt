@@ -37,5 +37,5 @@ pasted front x was into now start k e f g h =
     let taken : take start into ≡ front = ap (take start) f ∙ take-at front (drop start was) start (sym e) in
     let left : drop start into ≡ drop start was = ap (drop start) f ∙ drop-at front (drop start was) start (sym e) in
     let behind : drop (start + length x) into ≡ drop (start + length x) was =
-        sym (drop-drop (length x) start into) ∙ ap (drop (length x)) left ∙ drop-drop (length x) start was in
+    sym (drop-drop (length x) start into) ∙ ap (drop (length x)) left ∙ drop-drop (length x) start was in
     putMid-paste start k into now x (length x) g h refl ∙ rw (taken, behind, take-all (length x) x (omega arith))

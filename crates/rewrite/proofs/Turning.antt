@@ -79,6 +79,6 @@ module _ (ws : List ℕ) (s : Step) (before : List ℕ) (q : Query) (w : ℕ) (a
         none = λ other f fits.
             let same : other ≡ new = cc in
             let long : length parts ≡ length before + (6 * size other + length after) =
-                rw same (ap length p ∙ length-append before (signs ++ after) ∙ omega (arith, length-append signs after, written-long t)) in
+            rw same (ap length p ∙ length-append before (signs ++ after) ∙ omega (arith, length-append signs after, written-long t)) in
             put .0 (rw long fits);
       }

@@ -36,7 +36,7 @@ unfolding parse
 written-parse ws xs q w s h =
     let even : length xs % 6 ≡ 0 = omega (arith, written-long s) in
     let s′ = subst (λ us. reads 16 (length xs / 6) ws us ≡ parsed q w []) (append-nil xs)
-        (reads-there (stands-there [] s) 16 (length xs / 6) (omega (arith, length-append xs []))) in
+    (reads-there (stands-there [] s) 16 (length xs / 6) (omega (arith, length-append xs []))) in
     rw (le-leb (length xs) 96 h, eq-eqb (length xs % 6) 0 even, s′)
 
 module _ (tables signs : List ℕ) (s : Step) (place : ℕ) (was : List ℕ) where
@@ -63,10 +63,10 @@ module _ (tables signs : List ℕ) (s : Step) (place : ℕ) (was : List ℕ) whe
         let ws = widths-in tables in
         let xs = before ++ (m .signs ++ p .after) in
         let whole : Written ws xs (put-at place (m .new) old) w =
-            subst (λ us. Written ws (us ++ (m .signs ++ p .after)) (put-at place (m .new) old) w) (sym front) (p .put (m .signs) (m .new) (m .written)) in
+        subst (λ us. Written ws (us ++ (m .signs ++ p .after)) (put-at place (m .new) old) w) (sym front) (p .put (m .signs) (m .new) (m .written)) in
         let taken : take n now ≡ xs = ap (take n) (m .put .2) ∙ take-at xs (drop n was) n (sym (m .put .0)) in
         let same = λ (ts : List (List Row)) (rows : Of-widths ws ts). rewriting .inside ts (p .inner) (m .new) old (put-at place (m .new) old)
-            (turned-alike ws ts rows s (m .new) (p .written) (m .made)) (p .replaced (m .new)) in
+        (turned-alike ws ts rows s (m .new) (p .written) (m .made)) (p .replaced (m .new)) in
         record {
           fit = f;
           old = old;
@@ -90,10 +90,10 @@ module _ (tables signs : List ℕ) (s : Step) (place : ℕ) (was : List ℕ) whe
           let same : old′ ≡ old = cc in
           let ws = widths-in tables in
           let g′ : put-back place old (turned ws s (p .inner)) ≡ Some new =
-              sym (rw (p .there)) ∙ subst (λ q. rewritten ws s place q ≡ Some new) same g in
+          sym (rw (p .there)) ∙ subst (λ q. rewritten ws s place q ≡ Some new) same g in
           let k = put-shown (turned ws s (p .inner)) old new g′ in
           let long : 6 * size new ≡ length before + (6 * size (k .0) + length (p .after)) =
-              ap (λ q. 6 * size q) (k .2) ∙ p .sized (k .0) ∙ ap (λ us. length us + (6 * size (k .0) + length (p .after))) (sym front) in
+          ap (λ q. 6 * size q) (k .2) ∙ p .sized (k .0) ∙ ap (λ us. length us + (6 * size (k .0) + length (p .after))) (sym front) in
           l .none (k .0) (k .1) (subst (λ n. Fits n (length was)) long room);
     }
 

@@ -20,7 +20,13 @@ use tables::fit;
 const SIGNS: usize = 6;
 
 /// Makes a step at the query at the front of `at`, and writes what stands before it, what is made of it, and what comes after it.
-fn apply_at<'a>(tables: &[u64], before: &'a [u64], at: &'a [u64], step: Step, into: &mut [u64]) -> Option<usize>
+fn apply_at<'a>(
+    tables: &[u64],
+    before: &'a [u64],
+    at: &'a [u64],
+    step: Step,
+    into: &mut [u64],
+) -> Option<usize>
     ensures { λ r. ⌜ Makes (now (tables .entry)) step (now (before .entry)) (now (at .entry)) (now (into .entry)) (now (into .exit)) r ⌝ }
 {
     match step {
@@ -41,7 +47,13 @@ fn apply_at<'a>(tables: &[u64], before: &'a [u64], at: &'a [u64], step: Step, in
 /// Rewrites the query `signs` by one step at the operator `place`, counted from 0, into the front of `into`, and tells how many
 /// numbers it wrote. `None`, with `into` as it was, where a table does not fit, `signs` is no query, the step's pattern does not
 /// stand at that operator, or the new query has more than 16 operators or does not fit into `into`.
-pub fn apply(tables: &[u64], signs: &[u64], step: Step, place: usize, into: &mut [u64]) -> Option<usize>
+pub fn apply(
+    tables: &[u64],
+    signs: &[u64],
+    step: Step,
+    place: usize,
+    into: &mut [u64],
+) -> Option<usize>
     ensures { λ r. ⌜ Steps (now (tables .entry)) (now (signs .entry)) step place (now (into .entry)) (now (into .exit)) r ⌝ }
 {
     let Ok(_) = fit(tables) else {

@@ -4,7 +4,6 @@ mod products;
 mod projections;
 mod selections;
 mod signs;
-
 mod write;
 
 pub use applying::apply;

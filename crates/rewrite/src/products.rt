@@ -7,7 +7,12 @@ use crate::signs::union_at;
 use crate::write::put;
 
 /// The sides of a union change places.
-pub fn swap_union<'a>(tables: &[u64], before: &'a [u64], at: &'a [u64], into: &mut [u64]) -> Option<usize>
+pub fn swap_union<'a>(
+    tables: &[u64],
+    before: &'a [u64],
+    at: &'a [u64],
+    into: &mut [u64],
+) -> Option<usize>
     ensures { λ r. ⌜ Makes (now (tables .entry)) SwapUnion (now (before .entry)) (now (at .entry)) (now (into .entry)) (now (into .exit)) r ⌝ }
 {
     let Some(union) = union_at(at) else {
@@ -19,11 +24,19 @@ pub fn swap_union<'a>(tables: &[u64], before: &'a [u64], at: &'a [u64], into: &m
     let Some(right) = query_at(tables, left.rest) else {
         return None;
     };
-    put(&[before, union.sign, right.signs, left.signs, right.rest], into)
+    put(
+        &[before, union.sign, right.signs, left.signs, right.rest],
+        into,
+    )
 }
 
 /// A product with a product on its right is grouped to the left.
-pub fn regroup_left<'a>(tables: &[u64], before: &'a [u64], at: &'a [u64], into: &mut [u64]) -> Option<usize>
+pub fn regroup_left<'a>(
+    tables: &[u64],
+    before: &'a [u64],
+    at: &'a [u64],
+    into: &mut [u64],
+) -> Option<usize>
     ensures { λ r. ⌜ Makes (now (tables .entry)) RegroupLeft (now (before .entry)) (now (at .entry)) (now (into .entry)) (now (into .exit)) r ⌝ }
 {
     let Some(outer) = product_at(at) else {
@@ -35,11 +48,19 @@ pub fn regroup_left<'a>(tables: &[u64], before: &'a [u64], at: &'a [u64], into: 
     let Some(inner) = product_at(left.rest) else {
         return None;
     };
-    put(&[before, outer.sign, inner.sign, left.signs, inner.rest], into)
+    put(
+        &[before, outer.sign, inner.sign, left.signs, inner.rest],
+        into,
+    )
 }
 
 /// A product with a product on its left is grouped to the right.
-pub fn regroup_right<'a>(tables: &[u64], before: &'a [u64], at: &'a [u64], into: &mut [u64]) -> Option<usize>
+pub fn regroup_right<'a>(
+    tables: &[u64],
+    before: &'a [u64],
+    at: &'a [u64],
+    into: &mut [u64],
+) -> Option<usize>
     ensures { λ r. ⌜ Makes (now (tables .entry)) RegroupRight (now (before .entry)) (now (at .entry)) (now (into .entry)) (now (into .exit)) r ⌝ }
 {
     let Some(outer) = product_at(at) else {
@@ -51,11 +72,19 @@ pub fn regroup_right<'a>(tables: &[u64], before: &'a [u64], at: &'a [u64], into:
     let Some(left) = query_at(tables, inner.rest) else {
         return None;
     };
-    put(&[before, outer.sign, left.signs, inner.sign, left.rest], into)
+    put(
+        &[before, outer.sign, left.signs, inner.sign, left.rest],
+        into,
+    )
 }
 
 /// A union on the left side of a product becomes a union of products.
-pub fn union_out_of_left<'a>(tables: &[u64], before: &'a [u64], at: &'a [u64], into: &mut [u64]) -> Option<usize>
+pub fn union_out_of_left<'a>(
+    tables: &[u64],
+    before: &'a [u64],
+    at: &'a [u64],
+    into: &mut [u64],
+) -> Option<usize>
     ensures { λ r. ⌜ Makes (now (tables .entry)) UnionOutOfLeft (now (before .entry)) (now (at .entry)) (now (into .entry)) (now (into .exit)) r ⌝ }
 {
     let Some(product) = product_at(at) else {
@@ -74,13 +103,27 @@ pub fn union_out_of_left<'a>(tables: &[u64], before: &'a [u64], at: &'a [u64], i
         return None;
     };
     put(
-        &[before, union.sign, product.sign, left.signs, other.signs, product.sign, right.signs, right.rest],
+        &[
+            before,
+            union.sign,
+            product.sign,
+            left.signs,
+            other.signs,
+            product.sign,
+            right.signs,
+            right.rest,
+        ],
         into,
     )
 }
 
 /// A union on the right side of a product becomes a union of products.
-pub fn union_out_of_right<'a>(tables: &[u64], before: &'a [u64], at: &'a [u64], into: &mut [u64]) -> Option<usize>
+pub fn union_out_of_right<'a>(
+    tables: &[u64],
+    before: &'a [u64],
+    at: &'a [u64],
+    into: &mut [u64],
+) -> Option<usize>
     ensures { λ r. ⌜ Makes (now (tables .entry)) UnionOutOfRight (now (before .entry)) (now (at .entry)) (now (into .entry)) (now (into .exit)) r ⌝ }
 {
     let Some(product) = product_at(at) else {
@@ -96,7 +139,16 @@ pub fn union_out_of_right<'a>(tables: &[u64], before: &'a [u64], at: &'a [u64], 
         return None;
     };
     put(
-        &[before, union.sign, product.sign, other.signs, left.signs, product.sign, other.signs, left.rest],
+        &[
+            before,
+            union.sign,
+            product.sign,
+            other.signs,
+            left.signs,
+            product.sign,
+            other.signs,
+            left.rest,
+        ],
         into,
     )
 }

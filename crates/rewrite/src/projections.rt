@@ -46,7 +46,12 @@ fn projection(kept: u64, columns: [u64; 4]) -> [u64; 6]
 }
 
 /// A test of the columns that a projection keeps is made before it.
-pub fn test_below_projection<'a>(tables: &[u64], before: &'a [u64], at: &'a [u64], into: &mut [u64]) -> Option<usize>
+pub fn test_below_projection<'a>(
+    tables: &[u64],
+    before: &'a [u64],
+    at: &'a [u64],
+    into: &mut [u64],
+) -> Option<usize>
     ensures { λ r. ⌜ Makes (now (tables .entry)) TestBelowProjection (now (before .entry)) (now (at .entry)) (now (into .entry)) (now (into .exit)) r ⌝ }
 {
     let Some(selected) = select_at(at) else {
@@ -61,11 +66,23 @@ pub fn test_below_projection<'a>(tables: &[u64], before: &'a [u64], at: &'a [u64
     let columns = projected.columns;
     let test = test_through(selected.test, &columns[0..projected.kept as usize]);
     let moved = selection(test);
-    put_with(before, projected.sign, &at[0..0], &moved, projected.rest, into)
+    put_with(
+        before,
+        projected.sign,
+        &at[0..0],
+        &moved,
+        projected.rest,
+        into,
+    )
 }
 
 /// Two projections become one.
-pub fn join_projections<'a>(tables: &[u64], before: &'a [u64], at: &'a [u64], into: &mut [u64]) -> Option<usize>
+pub fn join_projections<'a>(
+    tables: &[u64],
+    before: &'a [u64],
+    at: &'a [u64],
+    into: &mut [u64],
+) -> Option<usize>
     ensures { λ r. ⌜ Makes (now (tables .entry)) JoinProjections (now (before .entry)) (now (at .entry)) (now (into .entry)) (now (into .exit)) r ⌝ }
 {
     let Some(outer) = project_at(at) else {

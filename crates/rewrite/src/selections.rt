@@ -57,7 +57,12 @@ pub fn selection(test: Test) -> [u64; 6]
 }
 
 /// Two tests change places.
-pub fn swap_tests<'a>(tables: &[u64], before: &'a [u64], at: &'a [u64], into: &mut [u64]) -> Option<usize>
+pub fn swap_tests<'a>(
+    tables: &[u64],
+    before: &'a [u64],
+    at: &'a [u64],
+    into: &mut [u64],
+) -> Option<usize>
     ensures { λ r. ⌜ Makes (now (tables .entry)) SwapTests (now (before .entry)) (now (at .entry)) (now (into .entry)) (now (into .exit)) r ⌝ }
 {
     let Some(outer) = select_at(at) else {
@@ -70,7 +75,12 @@ pub fn swap_tests<'a>(tables: &[u64], before: &'a [u64], at: &'a [u64], into: &m
 }
 
 /// A test that reads only the left side of a product is made on that side.
-pub fn test_into_left<'a>(tables: &[u64], before: &'a [u64], at: &'a [u64], into: &mut [u64]) -> Option<usize>
+pub fn test_into_left<'a>(
+    tables: &[u64],
+    before: &'a [u64],
+    at: &'a [u64],
+    into: &mut [u64],
+) -> Option<usize>
     ensures { λ r. ⌜ Makes (now (tables .entry)) TestIntoLeft (now (before .entry)) (now (at .entry)) (now (into .entry)) (now (into .exit)) r ⌝ }
 {
     let Some(selected) = select_at(at) else {
@@ -89,7 +99,12 @@ pub fn test_into_left<'a>(tables: &[u64], before: &'a [u64], at: &'a [u64], into
 }
 
 /// A test that reads only the right side of a product is made on that side.
-pub fn test_into_right<'a>(tables: &[u64], before: &'a [u64], at: &'a [u64], into: &mut [u64]) -> Option<usize>
+pub fn test_into_right<'a>(
+    tables: &[u64],
+    before: &'a [u64],
+    at: &'a [u64],
+    into: &mut [u64],
+) -> Option<usize>
     ensures { λ r. ⌜ Makes (now (tables .entry)) TestIntoRight (now (before .entry)) (now (at .entry)) (now (into .entry)) (now (into .exit)) r ⌝ }
 {
     let Some(selected) = select_at(at) else {
@@ -109,7 +124,12 @@ pub fn test_into_right<'a>(tables: &[u64], before: &'a [u64], at: &'a [u64], int
 }
 
 /// A test of a union is made on both of its sides.
-pub fn test_into_union<'a>(tables: &[u64], before: &'a [u64], at: &'a [u64], into: &mut [u64]) -> Option<usize>
+pub fn test_into_union<'a>(
+    tables: &[u64],
+    before: &'a [u64],
+    at: &'a [u64],
+    into: &mut [u64],
+) -> Option<usize>
     ensures { λ r. ⌜ Makes (now (tables .entry)) TestIntoUnion (now (before .entry)) (now (at .entry)) (now (into .entry)) (now (into .exit)) r ⌝ }
 {
     let Some(selected) = select_at(at) else {
@@ -122,7 +142,14 @@ pub fn test_into_union<'a>(tables: &[u64], before: &'a [u64], at: &'a [u64], int
         return None;
     };
     put(
-        &[before, union.sign, selected.sign, left.signs, selected.sign, left.rest],
+        &[
+            before,
+            union.sign,
+            selected.sign,
+            left.signs,
+            selected.sign,
+            left.rest,
+        ],
         into,
     )
 }

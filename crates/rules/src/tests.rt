@@ -44,7 +44,10 @@ fn given(heap: Global, text: &str, mark: usize) -> Result<Option<(Rule, u64)>, A
 #[test]
 fn each_fault_is_told(rt: LibcRuntime) -> Result<(), Fail> {
     let heap = rt.alloc();
-    check_eq(read_command(heap, &[]).err(), Some(ArgumentError::UnknownRule)).note("no word")?;
+    check_eq(
+        read_command(heap, &[]).err(),
+        Some(ArgumentError::UnknownRule),
+    ).note("no word")?;
     check_eq(fault(heap, "sum")?, Some(ArgumentError::UnknownRule))?;
     check_eq(fault(heap, "level")?, Some(ArgumentError::NoTop))?;
     check_eq(fault(heap, "level high")?, Some(ArgumentError::NoNumber))?;
@@ -53,13 +56,22 @@ fn each_fault_is_told(rt: LibcRuntime) -> Result<(), Fail> {
     check_eq(fault(heap, "count x=1")?, Some(ArgumentError::NoNumber))?;
     check_eq(fault(heap, "count 7424=1")?, Some(ArgumentError::NoMark))?;
     check_eq(fault(heap, "without 7424")?, Some(ArgumentError::NoMark))?;
-    check_eq(fault(heap, "price 1=18446744073709551616")?, Some(ArgumentError::NoNumber))
+    check_eq(
+        fault(heap, "price 1=18446744073709551616")?,
+        Some(ArgumentError::NoNumber),
+    )
 }
 
 #[test]
 fn values_are_given(rt: LibcRuntime) -> Result<(), Fail> {
     let heap = rt.alloc();
-    check_eq(read_setting("7423=9").ok(), Some(Setting::Mark { mark: 7423, value: 9 }))?;
+    check_eq(
+        read_setting("7423=9").ok(),
+        Some(Setting::Mark {
+            mark: 7423,
+            value: 9,
+        }),
+    )?;
     check_eq(read_setting("else=0").ok(), Some(Setting::Others(0)))?;
     check_eq(given(heap, "count 3=3 3=4", 3)?, Some((Rule::Count, 4)))?;
     check_eq(given(heap, "count 3=3", 7423)?, Some((Rule::Count, 1)))?;

@@ -98,7 +98,7 @@ measured k (w ∷ xs) s e =
       high = let q = p .0 in grind (arith, tells);
       nodes-there = let q = p .1 in grind (arith, tells);
       all-there = let q = p .1 in grind (arith, tells);
-      is = p .2
+      is = p .2;
     }
 
 pub within : (k : ℕ) (xs : List ℕ) (s : Sizes) → Ok s ≡ sizes-of k xs → Fitting s xs

@@ -101,7 +101,7 @@ shaped-at w ys l h p q =
       some = l;
       few = h;
       nodes-long = length-take-le m ys p ∙ ap (λ (g : ℕ). 1 + 3 * g) (sym (getD-take m ys 0 0 (omega arith)));
-      rows-long = rw e (length-take-le (part-size (1 + w) zs) zs z ∙ ap (λ (g : ℕ). 1 + (1 + w) * g) (sym (getD-take (part-size (1 + w) zs) zs 0 0 (omega arith))))
+      rows-long = rw e (length-take-le (part-size (1 + w) zs) zs z ∙ ap (λ (g : ℕ). 1 + (1 + w) * g) (sym (getD-take (part-size (1 + w) zs) zs 0 0 (omega arith))));
     }
 
 answer-shaped : (xs : List ℕ) (s : Sizes) → Measured xs s → Shaped (answer-in s xs)
@@ -186,7 +186,7 @@ file-back hs s =
     let m : length (file hs) % 8 ≡ 0 = omega arith in
     let d : length (file hs) / 8 ≡ length (file-numbers hs) = omega arith in
     let w : numbers (length (file-numbers hs)) (file hs) ≡ file-numbers hs =
-        numbers-written (file-numbers hs) (omega arith, (omega arith, (s .few, all-small hs (s .small)))) in
+    numbers-written (file-numbers hs) (omega arith, (omega arith, (s .few, all-small hs (s .small)))) in
     rw (eq-eqb (length (file hs) % 8) 0 m, d, w) (numbers-back hs (s .shaped))
 
 file-only : (bs : List ℕ) (hs : List Held) → All (λ b. b < 256) bs → read-file bs ≡ holds hs → (bs ≡ file hs) × All Shaped hs

@@ -42,7 +42,7 @@ parts-at xs =
     record {
       width = getD xs 0 0;
       nodes = part-size 3 (drop 1 xs);
-      rows = part-size (1 + getD xs 0 0) (drop (part-size 3 (drop 1 xs)) (drop 1 xs))
+      rows = part-size (1 + getD xs 0 0) (drop (part-size 3 (drop 1 xs)) (drop 1 xs));
     }
 
 -- how many numbers they take together

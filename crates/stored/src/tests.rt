@@ -35,10 +35,18 @@ fn each_damage_is_told(rt: LibcRuntime) -> Result<(), Fail> {
     check_eq(fault(heap, &[1, 1])?, Some(FileError::CutOff(0))).note("no answer")?;
     check_eq(fault(heap, &[1, 1, 0, 0, 0])?, Some(FileError::Width(0))).note("width 0")?;
     check_eq(fault(heap, &[1, 1, 9, 0, 0])?, Some(FileError::Width(0))).note("width 9")?;
-    check_eq(fault(heap, &[1, 1, 1, 1, 1, 0])?, Some(FileError::CutOff(0))).note("a node is cut off")?;
+    check_eq(
+        fault(heap, &[1, 1, 1, 1, 1, 0])?,
+        Some(FileError::CutOff(0)),
+    ).note("a node is cut off")?;
     check_eq(fault(heap, &[1, 1, 1, 0])?, Some(FileError::CutOff(0))).note("no rows")?;
-    check_eq(fault(heap, &[1, 2, 1, 0, 0, 1, 0, 1, 5])?, Some(FileError::CutOff(1))).note("a row is cut off")?;
-    check_eq(fault(heap, &[1, 1, 1, 0, 0, 0])?, Some(FileError::LeftOver)).note("a number is left over")?;
+    check_eq(
+        fault(heap, &[1, 2, 1, 0, 0, 1, 0, 1, 5])?,
+        Some(FileError::CutOff(1)),
+    ).note("a row is cut off")?;
+    check_eq(fault(heap, &[1, 1, 1, 0, 0, 0])?, Some(FileError::LeftOver)).note(
+        "a number is left over",
+    )?;
     check_eq(fault(heap, &[1, 0])?, None).note("no answer is asked for")
 }
 
@@ -48,10 +56,16 @@ fn an_answer_is_read_back(rt: LibcRuntime) -> Result<(), Fail> {
     let nodes = Vec::from_slice(heap, &[1, 2, 1025, 0])?;
     let rows = Vec::from_slice(heap, &[1, 0, 7, 40])?;
     let mut answers = Vec::new(heap);
-    answers.push(Answer { width: 2, nodes, rows })?;
+    answers.push(Answer {
+        width: 2,
+        nodes,
+        rows,
+    })?;
     let bytes = encode(heap, answers.as_slice())?;
     check_eq(bytes.len(), 96)?;
-    let again = decode(heap, bytes.as_slice()).ok().ok_or("the file is whole")?;
+    let again = decode(heap, bytes.as_slice())
+        .ok()
+        .ok_or("the file is whole")?;
     let Some(answer) = again.as_slice().first() else {
         return Err("there is an answer".into());
     };

@@ -21,12 +21,12 @@ returns-in-rest-query-at c f xs q w after s e =
 pub returns-in-rest-query-at-2 : need.returns-in-rest-query-at-2
 returns-in-rest-query-at-2 c f xs q w after s e =
     absurd (left-there _ _ _ _ Product (c .in-Some .ensures tt)
-     (right-there _ _ _ _ Union (c .in-Some-union-at .ensures tt) (c .in-Some-query-at .left) (c .in-Some-query-at .ensures tt f) (c .in-rest-query-at-2 .ensures tt f)) xs q w after s e)
+    (right-there _ _ _ _ Union (c .in-Some-union-at .ensures tt) (c .in-Some-query-at .left) (c .in-Some-query-at .ensures tt f) (c .in-rest-query-at-2 .ensures tt f)) xs q w after s e)
 
 pub returns-in-rest-query-at-3 : need.returns-in-rest-query-at-3
 returns-in-rest-query-at-3 c f xs q w after s e =
     absurd (third-there _ _ _ _ Product (c .in-Some .ensures tt) Union _ _ (c .in-Some-query-at .left) (c .in-Some-query-at-2 .right)
-     (c .in-Some-union-at .ensures tt) (c .in-Some-query-at .ensures tt f) (c .in-Some-query-at-2 .ensures tt f) (c .in-rest-query-at-3 .ensures tt f) xs q w after s e)
+    (c .in-Some-union-at .ensures tt) (c .in-Some-query-at .ensures tt f) (c .in-Some-query-at-2 .ensures tt f) (c .in-rest-query-at-3 .ensures tt f) xs q w after s e)
 
 pub returns : need.returns
 unfolding together

@@ -21,7 +21,7 @@ returns-in-rest-union-at c f =
 pub returns-in-rest-query-at-2 : need.returns-in-rest-query-at-2
 returns-in-rest-query-at-2 c f xs q w after s e =
     absurd (right-there _ _ _ _ Product (c .in-Some .ensures tt) (c .in-Some-query-at .other) (c .in-Some-query-at .ensures tt f)
-     (left-there _ _ _ _ Union (c .in-Some-union-at .ensures tt) (c .in-rest-query-at-2 .ensures tt f)) xs q w after s e)
+    (left-there _ _ _ _ Union (c .in-Some-union-at .ensures tt) (c .in-rest-query-at-2 .ensures tt f)) xs q w after s e)
 
 pub returns : need.returns
 unfolding together

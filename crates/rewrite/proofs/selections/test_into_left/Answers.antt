@@ -20,7 +20,7 @@ returns-in-rest-product-at c f =
 pub returns-in-rest-query-at : need.returns-in-rest-query-at
 returns-in-rest-query-at c f xs q w after s e =
     absurd (below-there _ _ _ _ (Select (c .in-Some .selected .test)) (c .in-Some .ensures tt)
-     (left-there _ _ _ _ Product (c .in-Some-product-at .ensures tt) (c .in-rest-query-at .ensures tt f)) xs q w after s e)
+    (left-there _ _ _ _ Product (c .in-Some-product-at .ensures tt) (c .in-rest-query-at .ensures tt f)) xs q w after s e)
 
 pub returns-then-not-reads-within : need.returns-then-not-reads-within
 returns-then-not-reads-within c f =

@@ -19,7 +19,7 @@ returns-in-rest-union-at c f =
 pub returns-in-rest-query-at : need.returns-in-rest-query-at
 returns-in-rest-query-at c f xs q w after s e =
     absurd (below-there _ _ _ _ (Select (c .in-Some .selected .test)) (c .in-Some .ensures tt)
-     (left-there _ _ _ _ Union (c .in-Some-union-at .ensures tt) (c .in-rest-query-at .ensures tt f)) xs q w after s e)
+    (left-there _ _ _ _ Union (c .in-Some-union-at .ensures tt) (c .in-rest-query-at .ensures tt f)) xs q w after s e)
 
 pub returns : need.returns
 unfolding together

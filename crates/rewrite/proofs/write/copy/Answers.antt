@@ -24,11 +24,13 @@ loop-part-again c =
     let d : RefT _ = record { ptr = (0, 0); name = 0; now = [] } in
     let more = left-more ps i d (c .loop-part-test .taken) in
     let taken = taken-more ps i d (c .loop-part-test .taken) in
-    let long = length-append (together (take i ps)) (getD ps i d .now) in
-    (omega (arith, ap length taken, c .loop-part .inv .0), omega (arith, c .loop-part .inv .1),
-     pasted (together (take i ps)) (getD ps i d .now) (c .args .into .now) (c .loop-part .into) _ (c .loop-part .start) _
-     (c .loop-part .inv .0) (c .loop-part .inv .2) (c .copy-from-slice .ensures .after) (omega arith)
-     ∙ ap (λ xs. xs ++ drop (c .loop-part .start + length (getD ps i d .now)) (c .args .into .now)) (sym taken))
+    let long = length-append (together (take i ps)) (getD ps i d .now) in (
+      omega (arith, ap length taken, c .loop-part .inv .0),
+      omega (arith, c .loop-part .inv .1),
+      pasted (together (take i ps)) (getD ps i d .now) (c .args .into .now) (c .loop-part .into) _ (c .loop-part .start) _
+          (c .loop-part .inv .0) (c .loop-part .inv .2) (c .copy-from-slice .ensures .after) (omega arith)
+          ∙ ap (λ xs. xs ++ drop (c .loop-part .start + length (getD ps i d .now)) (c .args .into .now)) (sym taken),
+    )
 
 pub returns : need.returns
 returns c =

@@ -13,6 +13,6 @@ returns-in-Break-numbers c =
 pub returns : need.returns
 returns c =
     let e = subst (λ (o : Outcome). File-read o (c .answers-in .result))
-        (sym (file-read (c .args .bytes .now) _ (c .in-Continue-numbers .numbers) (c .in-Continue-numbers .ensures tt) (c .as-slice .ensures .value)))
-        (c .answers-in .ensures) in
+    (sym (file-read (c .args .bytes .now) _ (c .in-Continue-numbers .numbers) (c .in-Continue-numbers .ensures tt) (c .as-slice .ensures .value)))
+    (c .answers-in .ensures) in
     record { read = e; only = only-files (c .args .bytes .now) (c .answers-in .result) (λ i. c .typed .bytes i .fits) e }

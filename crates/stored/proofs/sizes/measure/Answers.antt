@@ -11,7 +11,7 @@ pub returns-then-width-lt1 : need.returns-then-width-lt1
 returns-then-width-lt1 c =
     record {
       parts = bad-width _ (c .args .numbers .now) (search needs) (λ l h. ⊎-elim (λ p. omega arith) (λ p. omega arith) (c .then-width-lt1 .either));
-      within = tt
+      within = tt;
     }
 
 pub returns-in-rest-part : need.returns-in-rest-part
@@ -22,7 +22,7 @@ pub returns-in-rest-part-2 : need.returns-in-rest-part-2
 returns-in-rest-part-2 c =
     record {
       parts = rows-cut _ (c .args .numbers .now) (search needs) (omega arith) (omega arith) _ (c .in-Some .ensures tt) (c .in-rest-part-2 .ensures tt);
-      within = tt
+      within = tt;
     }
 
 pub returns : need.returns
