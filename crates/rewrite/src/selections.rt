@@ -141,15 +141,9 @@ pub fn test_into_union<'a>(
     let Some(left) = query_at(tables, union.rest) else {
         return None;
     };
+    let test = selected.sign;
     put(
-        &[
-            before,
-            union.sign,
-            selected.sign,
-            left.signs,
-            selected.sign,
-            left.rest,
-        ],
+        &[before, union.sign, test, left.signs, test, left.rest],
         into,
     )
 }

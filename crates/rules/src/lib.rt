@@ -15,6 +15,3 @@ pub use numbers::prices;
 pub use setting::Setting;
 pub use setting::read_setting;
 pub use text::line;
-
-#[cfg(test)]
-mod tests;

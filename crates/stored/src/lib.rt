@@ -22,6 +22,3 @@ pub struct Answer {
     /// The number of rows, and then for each its node and its cells.
     pub rows: Vec<u64>,
 }
-
-#[cfg(test)]
-mod tests;
