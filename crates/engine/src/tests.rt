@@ -84,6 +84,9 @@ fn answered(
     if work.len() / 9 < weight || nodes.len() / 4 < weight {
         return None;
     }
+    if hints.len() / 2 < weight {
+        return None;
+    }
     if !start(nodes, hints) {
         return None;
     }
