@@ -29,7 +29,8 @@ fn join(nodes: &mut [u64], hints: &mut [u64], a: u64, b: u64) -> u64
 fn write_row(out: &mut [u64], width: usize, n: usize, row: Entry<'_>)
     requires wide { ⌜ length (row .cells .now) ≡ width ⌝ }
     requires space { ⌜ 1 + (1 + width) * (n + 1) ≤ length (now out) ⌝ }
-    ensures rows { λ _. ⌜ answers-in width (n + 1) (drop 1 (now (out .exit))) ≡ answers-in width n (drop 1 (now (out .entry))) ++ answer-of (row .entry) ∷ [] ⌝ }
+    ensures rows { λ _. ⌜ answers-in width (n + 1) (drop 1 (now (out .exit)))
+        ≡ answers-in width n (drop 1 (now (out .entry))) ++ answer-of (row .entry) ∷ [] ⌝ }
     ensures behind { λ _. ⌜ drop (1 + (1 + width) * (n + 1)) (now (out .exit)) ≡ drop (1 + (1 + width) * (n + 1)) (now (out .entry)) ⌝ }
 {
     let start = 1 + (1 + width) * n;

@@ -18,7 +18,8 @@ pub(crate) const VERSION: u64 = 1;
 
 /// Appends the bytes of one answer.
 fn push_answer(bytes: &mut Vec<u8>, answer: &Answer) -> Result<(), AllocError>
-    ensures { λ r. ⌜ made r (λ _. vec-items (now (bytes .exit)) ≡ vec-items (now (bytes .entry)) ++ written (numbers-of (held (now (answer .entry))))) ⌝ }
+    ensures { λ r. ⌜ made r (λ _. vec-items (now (bytes .exit))
+        ≡ vec-items (now (bytes .entry)) ++ written (numbers-of (held (now (answer .entry))))) ⌝ }
 {
     push_number(bytes, answer.width as u64)?;
     push_numbers(bytes, answer.nodes.as_slice())?;
