@@ -53,7 +53,8 @@ pub fn put_with<'a>(
     rest: &'a [u64],
     into: &mut [u64],
 ) -> Option<usize>
-    ensures { λ r. ⌜ Puts (five (now (before .entry)) (now (sign .entry)) (now (left .entry)) (now (changed .entry)) (now (rest .entry))) (now (into .entry)) (now (into .exit)) r ⌝ }
+    ensures { λ r. ⌜ Puts (five (now (before .entry)) (now (sign .entry)) (now (left .entry)) (now (changed .entry)) (now (rest .entry)))
+        (now (into .entry)) (now (into .exit)) r ⌝ }
 {
     put(&[before, sign, left, changed, rest], into)
 }
