@@ -1,5 +1,7 @@
 //! Reads tables and then queries from standard input, and answers each query: a line for each row, with the ways in which it comes
 //! about. With a file named as its argument, it also writes the stored answers there.
+#![tactic(auto)]
+
 use anyhow::anyhow;
 use codec::{InputError, query_in, refused, tables_in};
 use eval::{Reply, ask};

@@ -1,4 +1,6 @@
 //! The binary form in which tables and queries reach the programs, and the lines that these print.
+#![tactic(auto)]
+
 mod input;
 mod output;
 mod query_form;

@@ -1,4 +1,6 @@
 //! Runs a query over tables: its rows with their notes, in lent memory, and its weight.
+#![tactic(auto)]
+
 mod joins;
 mod recursion;
 mod stage;

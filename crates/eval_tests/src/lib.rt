@@ -1,3 +1,5 @@
 //! Tests of asking, at its edges.
+#![tactic(auto)]
+
 #[cfg(test)]
 mod tests;

@@ -18,7 +18,7 @@ use Rattle.provenance.proofs.ValueWorth.{value_worth}
 use Rattle.provenance.proofs.Says.{normal_says}
 use Rattle.provenance.proofs.NormalOne.{normal_one}
 use Rattle.gather.specs.Gathered.{counted, noted, Gathered, Gives, GatheringAnswers, NotedGives}
-use Rattle.gather.specs.Grouped.{part, sum_at, counting}
+use Rattle.gather.proofs.Together.{part, sum_at, counting}
 use Rattle.gather.proofs.Distinct.{some_occurs, total_sum}
 use Rattle.gather.proofs.Positive.{Comes, run_comes}
 

@@ -1,9 +1,8 @@
 -- Rows in memory, one in every so many numbers. Assumes nothing.
-use Rattle.std.proofs.Common.{◌≡◌, ℕ, zero, suc, ◌+◌, ◌-◌, ◌*◌, ◌<◌, ◌≤◌, List, [], ◌∷◌, ◌++◌, get_or, take, drop, sym, refl, ap, ◌∙◌, ap₂, mul-zero, add-one, arith}
+use Rattle.std.proofs.Common.{◌≡◌, ℕ, zero, suc, ◌+◌, ◌-◌, ◌*◌, ◌≤◌, List, [], ◌∷◌, ◌++◌, get_or, take, drop, sym, refl, ap, ◌∙◌, ap₂, mul-zero, add-one, arith}
 use Rattle.std.proofs.lemmas.List.{take-take, drop-take, drop-drop, get_or-take}
 use Rattle.provenance.specs.Answer.{Answer}
 use Rattle.gather.specs.Gathered.{rows_apart}
-use Rattle.gather.specs.Grouped.{answer_at}
 
 -- the row at the front of the memory xs
 abbrev pub front_row : ℕ → List ℕ → Answer
@@ -22,14 +21,6 @@ after_suc span w (suc n) xs =
 -- one row more
 pub apart_more : (span w n : ℕ) (xs : List ℕ) → rows_apart span w (n + 1) xs ≡ rows_apart span w n xs ++ front_row w (drop (span * n) xs) ∷ []
 apart_more span w n xs = ap (λ k. rows_apart span w k xs) (add-one n) ∙ after_suc span w n xs
-
--- row i of n
-pub apart_at : (span w n i : ℕ) (xs : List ℕ) → i < n → answer_at (rows_apart span w n xs) i ≡ front_row w (drop (span * i) xs)
-unfolding rows_apart
-apart_at span w zero i xs h = absurd (omega arith)
-apart_at span w (suc n) zero xs h = rw mul-zero
-apart_at span w (suc n) (suc i) xs h =
-    apart_at span w n i (drop span xs) (omega arith) ∙ ap (front_row w) (drop-drop (span * i) span xs ∙ ap (λ k. drop k xs) (sym (times_suc span i)))
 
 pub front_take : (span w k : ℕ) (xs : List ℕ) → 1 + w ≤ span → front_row w (take (span + k) xs) ≡ front_row w xs
 front_take span w k xs h =

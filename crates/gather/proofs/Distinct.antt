@@ -10,8 +10,8 @@ use Rattle.query.specs.Semiring.{Count}
 use Rattle.query.specs.Query.{total}
 use Rattle.circuit.specs.declared.Node.{Node}
 use Rattle.provenance.specs.Answer.{Answer, RowsRise, none, one, more, Listed, here, there}
-use Rattle.gather.specs.Gathered.{Occurs, counted, Wide, Gathered}
-use Rattle.gather.specs.Grouped.{part, sum_at, counting, Together}
+use Rattle.gather.specs.Gathered.{Occurs, counted, Gathered}
+use Rattle.gather.proofs.Together.{part, sum_at, counting, Together}
 
 abbrev After : Row → Answer → Type 0
 After r a = Before r a.row
@@ -88,8 +88,7 @@ pub total_sum : (r : Row) (v : ℕ → ℕ) (ns : List Node) (xs : List Answer) 
 total_sum r v ns [] = total_none r
 total_sum r v ns (x ∷ xs) = total_more r v ns x xs ∙ ap (λ n. part r (counting v ns) x + n) (total_sum r v ns xs) ∙ sym (sum_by-cons (part r (counting v ns)) x xs)
 
--- what holds of each row holds of one of them
-listed_all : {r : Row} {i : ℕ} {xs : List Answer} (P : Answer → Type 0) → All P xs → Listed r i xs → P (record { row = r; node = i })
+listed_all : {r : Row} {i : ℕ} {xs : List Answer} (P : ℕ → Type 0) → All (λ (a : Answer). P a.node) xs → Listed r i xs → P i
 listed_all P all here = all.0
 listed_all P all (there listed) = listed_all P all.1 listed
 
@@ -99,25 +98,6 @@ gathered before after xs ys rise together known = record {
   rise = rise;
   all = λ r h. some_occurs r ys (together.all r (occurs_some h.1));
   only = λ r h. some_occurs r xs (together.only r (occurs_some h.1));
-  node = λ r i h. listed_all (λ (a : Answer). a.node < length after) known h;
+  node = λ r i h. listed_all (λ n. n < length after) known h;
   counts = λ r i h v. sym (listed_sum (counting v after) rise h) ∙ sym (together.sums r v) ∙ sym (total_sum r v before xs);
-}
-
-all_occurs : (P : Row → Type 0) (xs : List Answer) → ((r : Row) → Occurs r xs → P r) → All (λ (a : Answer). P a.row) xs
-all_occurs P [] h = tt
-all_occurs P (x ∷ xs) h = (h x.row (x.node, here), all_occurs P xs (λ r o. h r (o.0, there o.1)))
-
--- rows that are together are as wide
-pub wide_together : (before after : List Node) (xs ys : List Answer) (w : ℕ) → Together before after xs ys → Wide w xs → Wide w ys
-wide_together before after xs ys w t wide =
-    all_occurs (λ (r : Row). length r ≡ w) ys (λ r o. listed_all (λ (a : Answer). length a.row ≡ w) wide (some_occurs r xs (t.only r (occurs_some o.1))).1)
-
--- rows that are together are gathered into the same
-pub gathered_together : (before between after : List Node) (xs ys out : List Answer) → Together before between xs ys → Gathered between after ys out → Gathered before after xs out
-gathered_together before between after xs ys out t g = record {
-  rise = g.rise;
-  all = λ r h. g.all r (some_occurs r ys (t.all r (occurs_some h.1)));
-  only = λ r h. some_occurs r xs (t.only r (occurs_some (g.only r h).1));
-  node = g.node;
-  counts = λ r i h v. g.counts r i h v ∙ total_sum r v between ys ∙ sym (t.sums r v) ∙ sym (total_sum r v before xs);
 }

@@ -1,14 +1,9 @@
 -- A store with more nodes. Assumes nothing.
-use Rattle.std.proofs.Common.{◌≡◌, ℕ, ◌+◌, ◌-◌, ◌*◌, ◌<◌, ◌≤◌, List, drop, sym, refl, ap, ◌∙◌, arith}
-use Rattle.std.specs.List.{AllByRecursion as All}
-use Rattle.std.proofs.ByRecursion.{All-weaker}
+use Rattle.std.proofs.Common.{◌≡◌, ℕ, ◌+◌, ◌-◌, ◌*◌, ◌≤◌, List, drop, sym, refl, ap, ◌∙◌, arith}
 use Rattle.std.proofs.lemmas.List.{drop-drop}
-use Rattle.circuit.specs.Store.{nodes_in, expr_of}
 use Rattle.circuit.specs.Held.{count_in, Proper}
 use Rattle.circuit.specs.Hints.{half}
-use Rattle.provenance.specs.Answer.{Answer}
 use Rattle.gather.specs.Gathered.{Extended}
-use Rattle.gather.specs.Grouped.{Known}
 
 -- what is the same from a place on is the same further on
 pub drop_further : (a b : ℕ) (xs ys : List ℕ) → a ≤ b → drop a xs ≡ drop a ys → drop b xs ≡ drop b ys
@@ -44,9 +39,9 @@ extended_same m after hints hints_after k j e h = record {
   distinct = e.distinct;
 }
 
-pub extended_more : (m between after hints hints_between hints_after : List ℕ) (k l j : ℕ) →
-    Extended m between hints hints_between k → Extended between after hints_between hints_after l → k + l ≤ j → Extended m after hints hints_after j
-extended_more m between after hints hints_between hints_after k l j e f h =
+pub extended_more : (m between after hints hints_between hints_after : List ℕ) (k j : ℕ) →
+    Extended m between hints hints_between k → Extended between after hints_between hints_after 1 → k + 1 ≤ j → Extended m after hints hints_after j
+extended_more m between after hints hints_between hints_after k j e f h =
     let fewer : count_in after ≤ half hints → count_in between ≤ half hints = λ room. let y = f.more in omega arith in
     let as_wide : count_in after ≤ half hints → count_in after ≤ half hints_between = λ room. rw e.as_many room in
     record {
@@ -54,18 +49,10 @@ extended_more m between after hints hints_between hints_after k l j e f h =
       long = f.long ∙ e.long;
       more = let x = e.more in let y = f.more in omega arith;
       few = let x = e.few in let y = f.few in omega arith;
-      before = λ i b. f.before i (let x = e.more in omega arith) ∙ e.before i b;
-      same = λ i b. f.same i (let x = e.more in omega arith) ∙ e.same i b;
+      before = λ i l. f.before i (let x = e.more in omega arith) ∙ e.before i l;
+      same = λ i l. f.same i (let x = e.more in omega arith) ∙ e.same i l;
       behind = f.behind ∙ drop_further (1 + 3 * count_in between) (1 + 3 * count_in after) between m (let y = f.more in omega arith) e.behind;
       as_many = f.as_many ∙ e.as_many;
-      linked = λ leads room. f.linked (e.linked leads (fewer room)) (as_wide room);
-      distinct = λ leads room d. f.distinct (e.linked leads (fewer room)) (as_wide room) (e.distinct leads (fewer room) d);
+      linked = λ l room. f.linked (e.linked l (fewer room)) (as_wide room);
+      distinct = λ l room d. f.distinct (e.linked l (fewer room)) (as_wide room) (e.distinct l (fewer room) d);
     }
-
-module _ (m after hints hints_after : List ℕ) (k : ℕ) (e : Extended m after hints hints_after k) (xs : List Answer) (known : Known m xs) where
-  pub known_more : Known after xs
-  known_more = All-weaker (λ (x : Answer). x.node < count_in m) (λ (x : Answer). x.node < count_in after) (λ x l. let more = e.more in omega arith) xs known
-
-  -- the nodes of rows stand for what they stood for
-  pub known_stays : All (λ (x : Answer). expr_of (nodes_in after) x.node ≡ expr_of (nodes_in m) x.node) xs
-  known_stays = All-weaker (λ (x : Answer). x.node < count_in m) (λ (x : Answer). expr_of (nodes_in after) x.node ≡ expr_of (nodes_in m) x.node) (λ x l. e.same x.node l) xs known

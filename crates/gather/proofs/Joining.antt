@@ -1,16 +1,13 @@
 -- A store with the node for two nodes. Assumes nothing.
 use Rattle.std.proofs.Common.{◌≡◌, ℕ, ◌+◌, ◌*◌, ◌⊎◌, List, length, drop, Some, None, Option, sym, refl, ap, ◌∙◌, subst, ⊎_elim, arith}
 use Rattle.std.proofs.lemmas.List.{length_push}
-use Rattle.query.specs.Semiring.{Count}
 use Rattle.circuit.specs.declared.Node.{Node}
 use Rattle.circuit.specs.declared.Node.TheVariants.{Or}
-use Rattle.circuit.specs.Expr.{Expr, or, value}
-use Rattle.circuit.specs.Store.{nodes_in, expr_of}
+use Rattle.circuit.specs.Store.{nodes_in}
 use Rattle.circuit.specs.Held.{count_in, Proper, NamesEarlier, Pushed}
-use Rattle.circuit.specs.Joins.{or_is, Joined, CountsAs}
+use Rattle.circuit.specs.Joins.{or_is, Joined}
 use Rattle.circuit.proofs.NodeLists.{length_nodes_in}
 use Rattle.gather.specs.Gathered.{Extended}
-use Rattle.gather.specs.Grouped.{counting}
 
 abbrev Behind : List ℕ → List ℕ → Type 0
 Behind m after = drop (1 + 3 * count_in after) after ≡ drop (1 + 3 * count_in after) m
@@ -44,11 +41,3 @@ module _ (m after hints hints_after : List ℕ) (a b p : ℕ) (joined : Joined m
     linked = joined.shares.linked;
     distinct = λ l room d. joined.shares.distinct proper.sound l d;
   }
-
-value_or : (v : ℕ → ℕ) (a b : Expr) → value Count v (or a b) ≡ value Count v a + value Count v b
-unfolding value
-value_or v a b = refl
-
--- the node for two counts what the two count
-pub or_counts : (m after : List ℕ) (a b q : ℕ) → CountsAs m after (Or a b) q → (v : ℕ → ℕ) → counting v (nodes_in after) q ≡ counting v (nodes_in m) a + counting v (nodes_in m) b
-or_counts m after a b q counts v = counts.alike v ∙ value_or v (expr_of (nodes_in m) a) (expr_of (nodes_in m) b)

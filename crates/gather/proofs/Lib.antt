@@ -1,5 +1,5 @@
 pub mod Apart
-pub mod Entries
+pub mod Loading
 pub mod Together
 pub mod Distinct
 pub mod Writing
@@ -12,5 +12,3 @@ pub mod Whole
 pub mod Positive
 pub mod Answering
 pub mod Sums
-pub mod Adding
-pub mod Five

@@ -1,9 +1,9 @@
 -- Rows brought together: what the rows equal to a row come to stays the same. Assumes nothing.
-use Rattle.std.proofs.Common.{◌≡◌, ℕ, ◌+◌, List, [], ◌∷◌, ◌++◌, sum_by, sym, refl, ap, ◌∙◌, ap₂, ⊎_elim, arith}
+use Rattle.std.proofs.Common.{◌≡◌, ℕ, ◌+◌, ◌<◌, List, [], ◌∷◌, ◌++◌, sum_by, sym, refl, ap, ◌∙◌, ap₂, ⊎_elim, arith}
 use Rattle.std.specs.List.{AllByRecursion as All}
 use Rattle.std.proofs.ByRecursion.{All-weaker}
-use Rattle.std.proofs.lemmas.List.Sums.{sum_by-cons, sum_by-append, sum_by_push}
-use Rattle.std.proofs.lemmas.Bool.{cases_Bool, cases_lt}
+use Rattle.std.proofs.lemmas.List.Sums.{sum_by-cons, sum_by-append}
+use Rattle.std.proofs.lemmas.Bool.{cases_Bool}
 use Rattle.tables.specs.Bool.{pick}
 use Rattle.tables.specs.Tables.{Row, same_row}
 use Rattle.query.specs.Semiring.{Count}
@@ -11,7 +11,22 @@ use Rattle.circuit.specs.declared.Node.{Node}
 use Rattle.circuit.specs.Expr.{value}
 use Rattle.circuit.specs.Store.{expr_of}
 use Rattle.provenance.specs.Answer.{Answer}
-use Rattle.gather.specs.Grouped.{part, sum_at, counting, Together}
+
+-- what the rows equal to r come to, where f gives a number for each node
+abbrev pub part : Row → (ℕ → ℕ) → Answer → ℕ
+part r f a = pick (same_row r a.row) (f a.node) 0
+
+abbrev pub sum_at : Row → (ℕ → ℕ) → List Answer → ℕ
+sum_at r f xs = sum_by (part r f) xs
+
+abbrev pub counting : (ℕ → ℕ) → List Node → ℕ → ℕ
+counting v ns i = value Count v (expr_of ns i)
+
+-- the rows ys are the rows xs, in another order and some equal ones together
+pub record Together (before after : List Node) (xs ys : List Answer) : Type 0 where
+  pub sums : (r : Row) (v : ℕ → ℕ) → sum_at r (counting v before) xs ≡ sum_at r (counting v after) ys
+  pub all : (r : Row) → 0 < sum_at r (λ _. 1) xs → 0 < sum_at r (λ _. 1) ys
+  pub only : (r : Row) → 0 < sum_at r (λ _. 1) ys → 0 < sum_at r (λ _. 1) xs
 
 -- whatever number each row has, the rows ys come to what the rows xs do
 abbrev pub SameSums : List Answer → List Answer → Type 0
@@ -31,26 +46,6 @@ sum_same : (r : Row) (f g : ℕ → ℕ) (xs : List Answer) → All (λ (a : Ans
 sum_same r f g [] same = refl
 sum_same r f g (x ∷ xs) same =
     sum_by-cons (part r f) x xs ∙ ap₂ ◌+◌ (ap (λ n. pick (same_row r x.row) n 0) same.0) (sum_same r f g xs same.1) ∙ sym (sum_by-cons (part r g) x xs)
-
--- one row more beside rows that are together
-module _ (ns ms : List Node) (xs ys : List Answer) (y : Answer) (t : Together ns ms xs ys) (stays : expr_of ms y.node ≡ expr_of ns y.node) where
-  beside : (r : Row) (f : ℕ → ℕ) → sum_at r f (xs ++ y ∷ []) ≡ part r f y + sum_at r f xs
-  beside r f = sum_by_push (part r f) xs y ∙ omega arith
-
-  count_beside : (r : Row) → (sum_at r (λ _. 1) (xs ++ y ∷ []) ≡ part r (λ _. 1) y + sum_at r (λ _. 1) xs) × (sum_at r (λ _. 1) (y ∷ ys) ≡ part r (λ _. 1) y + sum_at r (λ _. 1) ys)
-  count_beside r = (beside r (λ _. 1), sum_by-cons (part r (λ _. 1)) y ys)
-
-  pub together_beside : Together ns ms (xs ++ y ∷ []) (y ∷ ys)
-  together_beside = record {
-    sums = λ r v.
-        let same : part r (counting v ms) y ≡ part r (counting v ns) y = ap (λ e. pick (same_row r y.row) (value Count v e) 0) stays in
-        let was = beside r (counting v ns) in
-        let is = sum_by-cons (part r (counting v ms)) y ys in
-        let others = t.sums r v in
-        omega arith;
-    all = λ r h. let e = count_beside r in ⊎_elim (λ mine. omega arith) (λ mine. let others = t.all r (omega arith) in omega arith) (cases_lt 0 (part r (λ _. 1) y));
-    only = λ r h. let e = count_beside r in ⊎_elim (λ mine. omega arith) (λ mine. let others = t.only r (omega arith) in omega arith) (cases_lt 0 (part r (λ _. 1) y));
-  }
 
 sum_around : (r : Row) (f : ℕ → ℕ) (done : List Answer) (a : Answer) (left : List Answer) → sum_at r f (done ++ a ∷ left) ≡ sum_at r f done + (part r f a + sum_at r f left)
 sum_around r f done a left = sum_by-append (part r f) done (a ∷ left) ∙ ap (λ n. sum_at r f done + n) (sum_by-cons (part r f) a left)

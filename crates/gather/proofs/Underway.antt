@@ -1,23 +1,23 @@
 -- Equal neighbours brought together, entry by entry. Assumes nothing.
 use Rattle.std.proofs.Common.{◌≡◌, ℕ, ◌+◌, ◌-◌, ◌*◌, ◌<◌, ◌≤◌, true, false, List, [], ◌∷◌, ◌++◌, length, get_or, drop, sym, refl, ap, ◌∙◌, subst, mul-le-mul, arith}
 use Rattle.std.specs.List.{AllByRecursion as All}
-use Rattle.std.proofs.ByRecursion.{All-get_or, All-drop, All-push}
+use Rattle.std.proofs.ByRecursion.{All-get_or, All-drop, All-push, All-weaker}
 use Rattle.std.proofs.lemmas.List.{append_assoc, get_or-map, drop_more, drop_all, nil_from_length}
 use Rattle.tables.specs.Tables.{before}
 use Rattle.tables.proofs.RowOrder.{before_else}
+use Rattle.query.specs.Semiring.{Count}
 use Rattle.circuit.specs.declared.Node.TheVariants.{Or}
-use Rattle.circuit.specs.Store.{nodes_in}
+use Rattle.circuit.specs.Expr.{Expr, or, value}
+use Rattle.circuit.specs.Store.{nodes_in, expr_of}
 use Rattle.circuit.specs.Held.{count_in}
 use Rattle.circuit.specs.Joins.{CountsAs}
 use Rattle.circuit.proofs.NodeLists.{length_nodes_in}
 use Rattle.provenance.specs.Answer.{Answer, RowsRise, none, one}
 use Rattle.gather.specs.declared.region.Entry.{Entry}
 use Rattle.gather.specs.Gathered.{rows_apart, rows_of, answer_of, answers_in, Wide, InOrder, Ready, Merged, Extended}
-use Rattle.gather.specs.Grouped.{Known, Together}
-use Rattle.gather.proofs.Together.{together_same, together_then, together_joined}
+use Rattle.gather.proofs.Together.{Together, together_same, together_then, together_joined}
 use Rattle.gather.proofs.Distinct.{apart, gathered}
-use Rattle.gather.proofs.Extending.{drop_further, extended_none, extended_same, extended_more, known_more, known_stays}
-use Rattle.gather.proofs.Joining.{or_counts}
+use Rattle.gather.proofs.Extending.{drop_further, extended_none, extended_same, extended_more}
 use Rattle.gather.proofs.Rises.{rise_last, rise_push}
 
 -- i of the rows are together: n of them are written to `out`, behind its first number, and one more, `last`, is still to come
@@ -37,6 +37,10 @@ pub record Underway (rows : List Answer) (w : ℕ) (m0 m hints0 hints out0 out :
 answers_none : (w : ℕ) (xs : List ℕ) → answers_in w 0 xs ≡ []
 unfolding rows_apart
 answers_none w xs = refl
+
+value_or : (v : ℕ → ℕ) (a b : Expr) → value Count v (or a b) ≡ value Count v a + value Count v b
+unfolding value
+value_or v a b = refl
 
 module _ (rows : List Answer) (w : ℕ) (m0 hints0 out0 : List ℕ) (order : InOrder rows) (all_wide : Wide w rows) (ready : Ready rows w m0 out0) where
   abbrev row_at : ℕ → Answer
@@ -104,8 +108,16 @@ module _ (rows : List Answer) (w : ℕ) (m0 hints0 out0 : List ℕ) (order : InO
           Underway rows w m0 m1 hints0 hints1 out0 out (record { row = last.row; node = q }) n (i + 1)
       underway_joins same m1 hints1 q extends counts =
           let few = g.few in
+          let more0 = g.store.more in
+          let more1 = extends.more in
           let done : List Answer = answers_in w n (drop 1 out) in
-          let left-known : Known m (drop (i + 1) rows) = known_more m0 m hints0 hints _ g.store (drop (i + 1) rows) (All-drop (λ (x : Answer). x.node < count_in m0) (i + 1) rows ready.known) in
+          let both : (v : ℕ → ℕ) → value Count v (expr_of (nodes_in m1) q) ≡ value Count v (expr_of (nodes_in m) last.node) + value Count v (expr_of (nodes_in m) y.node) =
+          λ v. counts.alike v ∙ value_or v (expr_of (nodes_in m) last.node) (expr_of (nodes_in m) y.node) in
+          let done-stays : All (λ (x : Answer). expr_of (nodes_in m1) x.node ≡ expr_of (nodes_in m) x.node) done =
+          All-weaker (λ (x : Answer). x.node < count_in m) (λ (x : Answer). expr_of (nodes_in m1) x.node ≡ expr_of (nodes_in m) x.node) (λ x l. extends.same x.node l) done g.known in
+          let left-stays : All (λ (x : Answer). expr_of (nodes_in m1) x.node ≡ expr_of (nodes_in m) x.node) (drop (i + 1) rows) =
+          All-weaker (λ (x : Answer). x.node < count_in m0) (λ (x : Answer). expr_of (nodes_in m1) x.node ≡ expr_of (nodes_in m) x.node) (λ x l. extends.same x.node (omega arith)) (drop (i + 1) rows)
+          (All-drop (λ (x : Answer). x.node < count_in m0) (i + 1) rows ready.known) in
           let before : Together (nodes_in m0) (nodes_in m) rows (done ++ last ∷ y ∷ drop (i + 1) rows) =
           subst (λ (xs : List Answer). Together (nodes_in m0) (nodes_in m) rows (done ++ last ∷ xs)) left g.together in
           record {
@@ -114,11 +126,10 @@ module _ (rows : List Answer) (w : ℕ) (m0 hints0 out0 : List ℕ) (order : InO
             wide = g.wide;
             at = same ∙ next_row ∙ ap (λ (k : ℕ). get_or (rows_of rows) k []) (omega arith);
             rise = rise_last done last (record { row = last.row; node = q }) refl g.rise;
-            together = together_then before (together_joined (nodes_in m) (nodes_in m1) done (drop (i + 1) rows) last y q same (or_counts m m1 last.node y.node q counts)
-                (known_stays m m1 hints hints1 1 extends done g.known) (known_stays m m1 hints hints1 1 extends (drop (i + 1) rows) left-known));
-            known = known_more m m1 hints hints1 1 extends done g.known;
+            together = together_then before (together_joined (nodes_in m) (nodes_in m1) done (drop (i + 1) rows) last (y) q same both done-stays left-stays);
+            known = All-weaker (λ (x : Answer). x.node < count_in m) (λ (x : Answer). x.node < count_in m1) (λ x l. omega arith) done g.known;
             counted = counts.counted;
-            store = extended_more m0 m m1 hints0 hints hints1 (i - (n + 1)) 1 (i + 1 - (n + 1)) g.store extends (omega arith);
+            store = extended_more m0 m m1 hints0 hints hints1 (i - (n + 1)) (i + 1 - (n + 1)) g.store extends (omega arith);
             long = g.long;
             behind = g.behind;
           }

@@ -1,19 +1,19 @@
 -- From the rows in order to the rows as they stood. Assumes nothing.
-use Rattle.std.proofs.Common.{◌≡◌, ℕ, zero, suc, ◌+◌, ◌-◌, ◌*◌, ◌<◌, ◌≤◌, Bool, ltb, List, [], ◌∷◌, length, drop, set, Decides, sum_by, sym, refl, ap, ◌∙◌, ⊎_elim, mul-le-mul, arith}
+use Rattle.std.proofs.Common.{◌≡◌, ℕ, zero, suc, ◌+◌, ◌-◌, ◌*◌, ◌<◌, ◌≤◌, Bool, eqb, ltb, List, [], ◌∷◌, length, drop, set, Decides, sum_by, sym, refl, ap, ◌∙◌, ⊎_elim, arith}
 use Rattle.std.specs.List.{AllByRecursion as All}
 use Rattle.std.proofs.lemmas.List.{length-take-le, length-drop, get_or-set_same, drop-set-lt}
 use Rattle.std.proofs.lemmas.List.Sums.{sum_by-cons}
 use Rattle.std.proofs.lemmas.Bool.{cases_Bool}
-use Rattle.std.proofs.lemmas.Bool.Decides.{Decides-ltb}
+use Rattle.std.proofs.lemmas.Bool.Decides.{Decides-eqb, Decides-ltb}
 use Rattle.tables.specs.Bool.{pick}
+use Rattle.circuit.specs.declared.Node.{Node}
 use Rattle.circuit.specs.Store.{nodes_in}
 use Rattle.circuit.specs.Held.{count_in}
 use Rattle.provenance.specs.Answer.{Answer}
 use Rattle.gather.specs.Gathered.{rows_apart, answers_in, Wide, Ready, Gathered, Merged, Written}
-use Rattle.gather.specs.Grouped.{Grouped}
 use Rattle.gather.proofs.Together.{SameSums, together_same}
-use Rattle.gather.proofs.Distinct.{gathered_together}
-use Rattle.gather.proofs.Extending.{extended_same, extended_more}
+use Rattle.gather.proofs.Distinct.{occurs_some, some_occurs, total_sum}
+use Rattle.gather.proofs.Extending.{extended_same}
 use Rattle.gather.proofs.Answering.{gathering_answers}
 
 pub length_apart : (span w n : ℕ) (xs : List ℕ) → length (rows_apart span w n xs) ≡ n
@@ -58,6 +58,9 @@ module _ (xs ys : List Answer) (same : SameSums xs ys) where
   all_same : (P : Answer → Type 0) (t : Answer → Bool) → ((a : Answer) → Decides (t a) (P a)) → All P xs → All P ys
   all_same P t d h = none_all P t d ys (same (fails t) ∙ all_none P t d xs h)
 
+  pub wide_same : (w : ℕ) → Wide w xs → Wide w ys
+  wide_same w h = all_same (λ (a : Answer). length a.row ≡ w) (λ (a : Answer). eqb (length a.row) w) (λ a. Decides-eqb (length a.row) w) h
+
   pub ready_same : (w : ℕ) (m out : List ℕ) → Ready xs w m out → Ready ys w m out
   ready_same w m out r = record {
     proper = r.proper;
@@ -66,11 +69,22 @@ module _ (xs ys : List Answer) (same : SameSums xs ys) where
     space = rw long r.space;
   }
 
+  gathered_same : (before after : List Node) (out : List Answer) → Gathered before after ys out → Gathered before after xs out
+  gathered_same before after out g =
+      let t = together_same before xs ys same in
+      record {
+        rise = g.rise;
+        all = λ r h. g.all r (some_occurs r ys (t.all r (occurs_some h.1)));
+        only = λ r h. let found = g.only r h in some_occurs r xs (t.only r (occurs_some found.1));
+        node = g.node;
+        counts = λ r i h v. g.counts r i h v ∙ total_sum r v before ys ∙ sym (t.sums r v) ∙ sym (total_sum r v before xs);
+      }
+
   -- the number of rows goes in front
   pub written : (w : ℕ) (m m1 hints hints1 out0 out : List ℕ) (n : ℕ) → 0 < length out → Merged ys w m m1 hints hints1 out0 out n → Written xs w m m1 hints hints1 out0 (set out 0 n) n
   written w m m1 hints hints1 out0 out n some g =
       let rows : Gathered (nodes_in m) (nodes_in m1) xs (answers_in w n (drop 1 (set out 0 n))) =
-      rw (drop-set-lt 1 out 0 n (omega arith)) (gathered_together (nodes_in m) (nodes_in m) (nodes_in m1) xs ys (answers_in w n (drop 1 out)) (together_same (nodes_in m) xs ys same) g.answer) in
+      rw (drop-set-lt 1 out 0 n (omega arith)) (gathered_same (nodes_in m) (nodes_in m1) (answers_in w n (drop 1 out)) g.answer) in
       let few = g.few in
       let l = long in
       record {
@@ -82,32 +96,4 @@ module _ (xs ys : List Answer) (same : SameSums xs ys) where
           behind = drop-set-lt (1 + (1 + w) * n) out 0 n (omega arith) ∙ g.behind;
         };
         answers = gathering_answers (nodes_in m) (nodes_in m1) xs (answers_in w n (drop 1 (set out 0 n))) rows;
-      }
-
--- from the rows of which equal ones are brought together to the rows as they stood
-module _ (rows grouped : List Answer) (m m1 hints hints1 : List ℕ) (g : Grouped rows grouped m m1 hints hints1) where
-  pub ready_grouped : (w : ℕ) (out : List ℕ) → Ready rows w m out → Ready grouped w m1 out
-  ready_grouped w out r =
-      let few = g.few in
-      let least : (1 + w) * length grouped ≤ (1 + w) * length rows = mul-le-mul (omega arith) few in
-      let nodes = r.nodes in
-      let more = g.store.few in
-      let long = g.store.long in
-      let space = r.space in
-      record { proper = g.store.proper; known = g.known; nodes = omega arith; space = omega arith }
-
-  pub written_grouped : (w : ℕ) (m2 hints2 out0 out : List ℕ) (n : ℕ) → Written grouped w m1 m2 hints1 hints2 out0 out n → Written rows w m m2 hints hints2 out0 out n
-  written_grouped w m2 hints2 out0 out n h =
-      let few = g.few in
-      let fewer = h.merged.few in
-      let answer = gathered_together (nodes_in m) (nodes_in m1) (nodes_in m2) rows grouped (answers_in w n (drop 1 out)) g.together h.merged.answer in
-      record {
-        count = h.count;
-        merged = record {
-          few = omega arith;
-          answer = answer;
-          store = extended_more m m1 m2 hints hints1 hints2 (length rows - length grouped) (length grouped - n) (length rows - n) g.store h.merged.store (omega arith);
-          behind = h.merged.behind;
-        };
-        answers = gathering_answers (nodes_in m) (nodes_in m2) rows (answers_in w n (drop 1 out)) answer;
       }

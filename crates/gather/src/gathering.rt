@@ -1,54 +1,26 @@
 //! Gathering the rows of a region into an answer, in local memory of a size that suits them.
-ghost use Rattle.std.specs.Prelude.{◌≡◌, ◌+◌, ◌*◌, ◌≤◌, map, length};
-ghost use Rattle.gather.specs.Gathered.{answer_of, region_rows, Wide, Ready, Written};
+ghost use Rattle.std.specs.Prelude.{◌+◌, ◌*◌, ◌≤◌, length};
+ghost use Rattle.gather.specs.Gathered.{region_rows, Ready, Written};
 
-use crate::grouping::group;
 use crate::merging::merge;
-use crate::region::Entry;
+use crate::region::{Entry, load};
 use crate::runs::merge_up;
 use rows::Region;
 
-/// Numbers of rows, for each of which there is local memory of its own: few rows cost little, since little is set up for them.
-const TINY: usize = 32;
+const FEW: usize = 64;
 
-const SMALL: usize = 128;
+const SOME: usize = 1024;
 
-const MIDDLE: usize = 512;
-
-const LARGE: usize = 2048;
-
-const LARGEST: usize = 8192;
+const MANY: usize = 8192;
 
 const NONE: Entry<'static> = Entry {
     cells: &[],
     node: 0,
 };
 
-/// Puts the entries into order, by way of as many `spare` ones, and makes them an answer. Runs are merged first, so that the sort,
-/// which rests on no run, mostly finds the entries in order.
-fn write_sorted<'a>(
-    entries: &mut [Entry<'a>],
-    spare: &mut [Entry<'a>],
-    width: usize,
-    nodes: &mut [u64],
-    hints: &mut [u64],
-    out: &mut [u64],
-) -> usize
-    requires few { (length entries.old ≤ 8192) × (length spare.old ≡ length entries.old) }
-    requires wide { Wide width (map answer_of entries.old) }
-    requires ready { Ready (map answer_of entries.old) width nodes.old out.old }
-    ensures { Written (map answer_of entries.old) width nodes.old nodes.new
-        hints.old hints.new out.old out.new result }
-{
-    merge_up(entries, spare);
-    entries.sort();
-    let count = merge(entries, width, nodes, hints, out);
-    out[0] = count as u64;
-    count
-}
-
-/// Gathers the rows of a region by way of `entries` and `spare` ones and `N` slots, of each of which there are enough.
-fn gather_by<'a, const N: usize>(
+/// Gathers the rows of a region by way of `entries`, with as many `spare` ones, of which there are enough. Runs are merged first,
+/// so that the sort, which rests on no run, mostly finds the entries in order.
+fn gather_by<'a>(
     work: &'a [u64],
     rows: Region,
     entries: &mut [Entry<'a>],
@@ -57,32 +29,79 @@ fn gather_by<'a, const N: usize>(
     hints: &mut [u64],
     out: &mut [u64],
 ) -> usize
-    requires few { (rows.count ≤ N) × (N ≤ 8192) }
+    requires within { (rows.width ≤ 8) × (9 * (rows.first + rows.count) ≤ length work.now) }
+    requires ready { Ready (region_rows work.now rows) rows.width nodes.old out.old }
     requires enough { (rows.count ≤ length entries.old) × (rows.count ≤ length spare.old) }
+    requires few { rows.count ≤ 8192 }
+    ensures { Written (region_rows work.now rows) rows.width nodes.old nodes.new
+        hints.old hints.new out.old out.new result }
+{
+    let count = rows.count;
+    let entries = &mut entries[0..count];
+    let spare = &mut spare[0..count];
+    load(work, rows, entries);
+    merge_up(entries, spare);
+    entries.sort();
+    let count = merge(entries, rows.width, nodes, hints, out);
+    out[0] = count as u64;
+    count
+}
+
+/// Gathers at most 64 rows.
+fn gather_few(
+    work: &[u64],
+    rows: Region,
+    nodes: &mut [u64],
+    hints: &mut [u64],
+    out: &mut [u64],
+) -> usize
+    requires few { rows.count ≤ 64 }
     requires within { (rows.width ≤ 8) × (9 * (rows.first + rows.count) ≤ length work.now) }
     requires ready { Ready (region_rows work.now rows) rows.width nodes.old out.old }
     ensures { Written (region_rows work.now rows) rows.width nodes.old nodes.new
         hints.old hints.new out.old out.new result }
 {
-    let mut slots = [0; N];
-    let count = group(work, rows, entries, &mut slots, nodes, hints);
-    write_sorted(
-        &mut entries[0..count],
-        &mut spare[0..count],
-        rows.width,
-        nodes,
-        hints,
-        out,
-    )
+    let mut entries = [NONE; FEW];
+    let mut spare = [NONE; FEW];
+    gather_by(work, rows, &mut entries, &mut spare, nodes, hints, out)
 }
 
-/// Gathers rows in local memory for so many. An array of entries has no const parameter for its length, so this is no function.
-macro_rules! gather_in {
-    ($size:ident, $work:expr, $rows:expr, $nodes:expr, $hints:expr, $out:expr) => {{
-        let mut entries = [NONE; $size];
-        let mut spare = [NONE; $size];
-        gather_by::<$size>($work, $rows, &mut entries, &mut spare, $nodes, $hints, $out)
-    }};
+/// Gathers at most 1,024 rows.
+fn gather_some(
+    work: &[u64],
+    rows: Region,
+    nodes: &mut [u64],
+    hints: &mut [u64],
+    out: &mut [u64],
+) -> usize
+    requires few { rows.count ≤ 1024 }
+    requires within { (rows.width ≤ 8) × (9 * (rows.first + rows.count) ≤ length work.now) }
+    requires ready { Ready (region_rows work.now rows) rows.width nodes.old out.old }
+    ensures { Written (region_rows work.now rows) rows.width nodes.old nodes.new
+        hints.old hints.new out.old out.new result }
+{
+    let mut entries = [NONE; SOME];
+    let mut spare = [NONE; SOME];
+    gather_by(work, rows, &mut entries, &mut spare, nodes, hints, out)
+}
+
+/// Gathers at most 8,192 rows.
+fn gather_many(
+    work: &[u64],
+    rows: Region,
+    nodes: &mut [u64],
+    hints: &mut [u64],
+    out: &mut [u64],
+) -> usize
+    requires few { rows.count ≤ 8192 }
+    requires within { (rows.width ≤ 8) × (9 * (rows.first + rows.count) ≤ length work.now) }
+    requires ready { Ready (region_rows work.now rows) rows.width nodes.old out.old }
+    ensures { Written (region_rows work.now rows) rows.width nodes.old nodes.new
+        hints.old hints.new out.old out.new result }
+{
+    let mut entries = [NONE; MANY];
+    let mut spare = [NONE; MANY];
+    gather_by(work, rows, &mut entries, &mut spare, nodes, hints, out)
 }
 
 /// Gathers the rows of a region into an answer, and says how many rows that has: it writes their number and then each row, its
@@ -100,15 +119,11 @@ pub fn gather(
     ensures { Written (region_rows work.now rows) rows.width nodes.old nodes.new
         hints.old hints.new out.old out.new result }
 {
-    if rows.count <= TINY {
-        gather_in!(TINY, work, rows, nodes, hints, out)
-    } else if rows.count <= SMALL {
-        gather_in!(SMALL, work, rows, nodes, hints, out)
-    } else if rows.count <= MIDDLE {
-        gather_in!(MIDDLE, work, rows, nodes, hints, out)
-    } else if rows.count <= LARGE {
-        gather_in!(LARGE, work, rows, nodes, hints, out)
+    if rows.count <= FEW {
+        gather_few(work, rows, nodes, hints, out)
+    } else if rows.count <= SOME {
+        gather_some(work, rows, nodes, hints, out)
     } else {
-        gather_in!(LARGEST, work, rows, nodes, hints, out)
+        gather_many(work, rows, nodes, hints, out)
     }
 }

@@ -10,7 +10,7 @@ use circuit::or;
 use tables::equal;
 
 /// The node for "a or b", for which there is room.
-pub fn join(nodes: &mut [u64], hints: &mut [u64], a: u64, b: u64) -> u64
+fn join(nodes: &mut [u64], hints: &mut [u64], a: u64, b: u64) -> u64
     requires store { Proper nodes.old }
     requires counted { (a < count_in nodes.old) × (b < count_in nodes.old) }
     requires room { 4 + 3 * count_in nodes.old ≤ length nodes.old }

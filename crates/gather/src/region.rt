@@ -1,9 +1,8 @@
 //! The rows of a query in a work row: nine numbers each, a node and up to eight cells.
-ghost use Rattle.std.specs.Prelude.{◌≡◌, ◌+◌, ◌*◌, ◌<◌, ◌≤◌, length};
+ghost use Rattle.std.specs.Prelude.{◌≡◌, ◌+◌, ◌*◌, ◌<◌, ◌≤◌, map, length};
 ghost use Rattle.std.specs.Cmp.Lexicographic.{Lex};
 ghost use Rattle.std.specs.Ordering.{MatchOrdering};
 ghost use Rattle.gather.specs.Gathered.{answer_of, region_rows};
-ghost use Rattle.gather.specs.Grouped.{answer_at};
 ghost use Rattle.std.specs.Cmp.Rules.{comparing};
 ghost use Rattle.std.proofs.Common.{rules};
 ghost use Rattle.std.specs.Cmp as Keys;
@@ -54,15 +53,17 @@ impl<'a> Ord for Entry<'a> {
     }
 }
 
-/// Row `i` of a region, as an entry.
-pub fn entry_at<'a>(work: &'a [u64], rows: Region, i: usize) -> Entry<'a>
+/// Makes `entries` the rows of a region.
+pub fn load<'a>(work: &'a [u64], rows: Region, entries: &mut [Entry<'a>])
     requires within { (rows.width ≤ 8) × (9 * (rows.first + rows.count) ≤ length work.now) }
-    requires there { i < rows.count }
-    ensures { answer_of result ≡ answer_at (region_rows work.now rows) i }
+    requires long { length entries.old ≡ rows.count }
+    ensures { map answer_of entries.new ≡ region_rows work.now rows }
 {
-    let start = SPAN * (rows.first + i);
-    Entry {
-        cells: &work[start + 1..start + 1 + rows.width],
-        node: work[start],
+    for i in 0..rows.count {
+        let start = SPAN * (rows.first + i);
+        entries[i] = Entry {
+            cells: &work[start + 1..start + 1 + rows.width],
+            node: work[start],
+        };
     }
 }

@@ -1,9 +1,8 @@
-//! Rows that come about more than once, gathered.
+//! Ships and the holders of their licences: the rows of a query in which one row comes about twice.
 use crate::gather;
 use rows::Region;
 use std::test::Fail;
 
-/// Ships and the holders of their licences: one row comes about twice.
 #[test]
 fn equal_rows_come_together(rt: HostRuntime) -> Result<(), Fail> {
     let mut work = [0; 45];
@@ -26,42 +25,5 @@ fn equal_rows_come_together(rt: HostRuntime) -> Result<(), Fail> {
     assert_eq!(rt; out, [4, 0, 7, 40, 1, 7, 50, 5, 8, 40, 4, 8, 50, 9, 9, 9]);
     assert_eq!(rt; nodes[0], 6, "one node more");
     assert_eq!(rt; [nodes[16], nodes[17], nodes[18]], [3, 2, 3], "2 or 3");
-    Ok(())
-}
-
-/// 1 and 22 have one slot, so that each is met where the other stands: only the last two rows meet in it.
-#[test]
-fn rows_of_one_slot_stay_apart(rt: HostRuntime) -> Result<(), Fail> {
-    let mut work = [0; 45];
-    (work[1], work[10], work[19], work[28], work[37]) = (1, 22, 1, 22, 22);
-    (work[9], work[18], work[27], work[36]) = (1, 2, 3, 4);
-    let mut nodes = [0; 31];
-    (nodes[0], nodes[1], nodes[2]) = (5, 2, 70);
-    (nodes[4], nodes[5], nodes[7], nodes[8]) = (2, 71, 2, 72);
-    (nodes[10], nodes[11], nodes[13], nodes[14]) = (2, 73, 2, 74);
-    let mut out = [9; 11];
-    let rows = Region {
-        first: 0,
-        count: 5,
-        width: 1,
-    };
-    assert_eq!(rt; gather(&work, rows, &mut nodes, &mut [], &mut out), 2);
-    assert_eq!(rt; out, [2, 6, 1, 7, 22, 9, 9, 9, 9, 9, 9]);
-    assert_eq!(rt; nodes[0], 8, "a node for each row less");
-    assert_eq!(rt;
-        [nodes[16], nodes[17], nodes[18]],
-        [3, 3, 4],
-        "3 or 4, met in the slot"
-    );
-    assert_eq!(rt;
-        [nodes[19], nodes[20], nodes[21]],
-        [3, 0, 2],
-        "0 or 2, met in order"
-    );
-    assert_eq!(rt;
-        [nodes[22], nodes[23], nodes[24]],
-        [3, 1, 5],
-        "1 or both of these, met in order"
-    );
     Ok(())
 }

@@ -1,4 +1,6 @@
 //! A semiring that the layers below know nothing of: two readings in one, written as a test that a new one needs no change there.
+#![tactic(auto)]
+
 ghost use Rattle.pair.specs.Pairs.{paired};
 ghost use Rattle.pair.specs.Paired.{paired_lawful};
 

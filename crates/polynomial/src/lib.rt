@@ -1,4 +1,6 @@
 //! Polynomials over marks in normal form: sums and products, within a room.
+#![tactic(auto)]
+
 ghost use Rattle.std.specs.Prelude.{◌≡◌, true};
 ghost use Rattle.polynomial.specs.Rise.{proper};
 ghost use Rattle.polynomial.specs.Ways.{monomials};

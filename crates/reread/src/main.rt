@@ -1,4 +1,6 @@
 //! Reads stored answers from standard input, without the tables, and prints what a rule reads for each row.
+#![tactic(auto)]
+
 use anyhow::anyhow;
 use codec::refused;
 use query::Price;

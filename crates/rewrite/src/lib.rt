@@ -1,4 +1,6 @@
 //! Queries rewritten on their operators, one step at a time, so that no row's provenance changes.
+#![tactic(auto)]
+
 mod applying;
 mod products;
 mod projections;

@@ -1,5 +1,5 @@
 pub mod Memory
 pub mod Notes
 pub mod Appended
-pub mod Asked
 pub mod Paired
+pub mod Asked

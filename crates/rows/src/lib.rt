@@ -1,4 +1,6 @@
 //! Rows with notes in lent memory, and what each operator of a query makes of them.
+#![tactic(auto)]
+
 mod behind;
 mod cells;
 mod counting;

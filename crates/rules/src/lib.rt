@@ -1,4 +1,6 @@
 //! What is asked of stored answers, as words, and the lines in which it is answered.
+#![tactic(auto)]
+
 mod command;
 mod error;
 mod giving;

@@ -4,10 +4,9 @@ ghost use Rattle.rules.specs.Lines.{led, cells_text, worth_text, line_text};
 
 use query::Price;
 use std::alloc::{AllocError, Global};
-use std::fmt;
 
 /// Writes each number with a blank before it.
-fn write_led(text: &mut String, numbers: &[u64]) -> fmt::Result
+fn write_led(text: &mut String, numbers: &[u64]) -> Result<(), AllocError>
     ensures { OnOk result (string_bytes text.new ≡ string_bytes text.old ++ led numbers.now) }
 {
     for number in numbers {
@@ -17,7 +16,7 @@ fn write_led(text: &mut String, numbers: &[u64]) -> fmt::Result
 }
 
 /// Writes the cells of a row with blanks between them.
-fn write_cells(text: &mut String, cells: &[u64]) -> fmt::Result
+fn write_cells(text: &mut String, cells: &[u64]) -> Result<(), AllocError>
     ensures { OnOk result (string_bytes text.new ≡ string_bytes text.old ++ cells_text cells.now) }
 {
     let [first, rest @ ..] = cells else {
@@ -28,7 +27,7 @@ fn write_cells(text: &mut String, cells: &[u64]) -> fmt::Result
 }
 
 /// Writes what a row is worth, with a colon and a blank before it.
-fn write_worth(text: &mut String, worth: Price) -> fmt::Result
+fn write_worth(text: &mut String, worth: Price) -> Result<(), AllocError>
     ensures { OnOk result (string_bytes text.new ≡ string_bytes text.old ++ worth_text worth) }
 {
     match worth {
@@ -42,11 +41,7 @@ pub fn line(heap: Global, cells: &[u64], worth: Price) -> Result<String, AllocEr
     ensures { IfOk result (λ s. string_bytes s ≡ line_text cells.now worth) }
 {
     let mut text = String::new(heap);
-    if write_cells(&mut text, cells).is_err() {
-        return Err(AllocError);
-    }
-    if write_worth(&mut text, worth).is_err() {
-        return Err(AllocError);
-    }
+    write_cells(&mut text, cells)?;
+    write_worth(&mut text, worth)?;
     Ok(text)
 }

@@ -1,5 +1,7 @@
 //! Reading the nodes of a circuit in any semiring. `read` is proved once, for whatever implements `Semiring`; counts, levels, prices and
 //! sets of cases are four that do, each with a function of its own.
+#![tactic(auto)]
+
 mod cases;
 mod count;
 mod errors;

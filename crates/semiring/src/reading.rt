@@ -49,7 +49,7 @@ fn evaluate<S: Semiring>(
     values: &[S::Value],
 ) -> Option<S::Value>
     requires { (NamesEarlier (length done.now) node) × (Valued (length values.now) node) }
-    ensures { TriesNode (algebra semiring.now) values.now done.now node result }
+    ensures { TriesNode (S.algebra semiring.now) values.now done.now node result }
 {
     match node {
         Node::Never => Some(semiring.zero()),
@@ -69,7 +69,7 @@ fn evaluate_chosen<S: Semiring>(
     values: &[S::Value],
 ) -> Result<Vec<S::Value>, ReadError>
     requires { (Chosen nodes.now chosen.now) × (MarksValued (length values.now) nodes.now chosen.now) }
-    ensures { Evaluates (algebra semiring.now) values.now nodes.now chosen.now result }
+    ensures { Evaluates (S.algebra semiring.now) values.now nodes.now chosen.now result }
 {
     let mut done = Vec::with_capacity(heap, nodes[0] as usize)?;
     for place in 0..nodes[0] {
@@ -107,8 +107,8 @@ pub fn read<S: Semiring>(
     asked: &[u64],
     values: &[S::Value],
 ) -> Result<Vec<S::Value>, ReadError>
-    ensures read { ReadTold (algebra semiring.now) values.now nodes.now asked.now result }
-    ensures worth { WorthTold (algebra semiring.now) values.now nodes.now asked.now result }
+    ensures read { ReadTold (S.algebra semiring.now) values.now nodes.now asked.now result }
+    ensures worth { WorthTold (S.algebra semiring.now) values.now nodes.now asked.now result }
 {
     if let Err(node) = check_nodes(nodes, asked) {
         return Err(ReadError::BadNode(node));

@@ -1,4 +1,6 @@
 //! The stored form of answers: bytes that hold the rows of answers with their nodes, to be read without the tables.
+#![tactic(auto)]
+
 mod decoding;
 mod encoding;
 mod error;

@@ -1,4 +1,6 @@
 //! The ways in which a row comes about: the normal form of a node of a circuit, within a room, and how it is written.
+#![tactic(auto)]
+
 mod expansion;
 mod flat;
 mod passes;

@@ -1,4 +1,6 @@
 //! The years in which a row holds: a semiring that the layers below know nothing of, written as a test that a new one needs no change there.
+#![tactic(auto)]
+
 ghost use Rattle.years.specs.Years.{year_algebra};
 ghost use Rattle.std.proofs.Common.{◌∙◌, mod-eq_of_lt, arith, rules};
 ghost use Rattle.std.proofs.lemmas.Nat.{and_mask, or_lt};

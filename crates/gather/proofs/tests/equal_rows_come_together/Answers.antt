@@ -1,9 +1,16 @@
-use Rattle.std.proofs.Common.{refl, arith}
+use Rattle.std.proofs.Common.{ℕ, zero, suc, ◌<◌, refl, arith}
 use Rattle.circuit.specs.Store.{readable, node_in, nodes_from}
 use Rattle.circuit.specs.Held.{node_read, node_held}
 use Rattle.gather.specs.Gathered.{rows_apart}
-use Rattle.gather.proofs.Five.{below_five}
 use Rattle.gather.proofs.tests.equal_rows_come_together.Goals as goal
+
+below_five : (P : ℕ → Type 0) → P 0 → P 1 → P 2 → P 3 → P 4 → (i : ℕ) → i < 5 → P i
+below_five P a b c d e zero h = a
+below_five P a b c d e (suc zero) h = b
+below_five P a b c d e (suc (suc zero)) h = c
+below_five P a b c d e (suc (suc (suc zero))) h = d
+below_five P a b c d e (suc (suc (suc (suc zero)))) h = e
+below_five P a b c d e (suc (suc (suc (suc (suc i))))) h = absurd (omega arith)
 
 -- five marks, and rows that name them
 pub gather-requires : goal.gather-requires

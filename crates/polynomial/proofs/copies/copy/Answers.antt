@@ -14,13 +14,12 @@ loop-way-preserved c =
     ∙ copied_more _ c.as_slice-way-items.result.now c.loop-way.way-index c.in_ok-copy.copy c.way-item.result
     c.loop-way-test.true c.way-item.is c.in_ok-copy.ensures c.loop-way.invariant
 
-pub invariant-of-result : goal.invariant-of-result
-invariant-of-result c = (
-  subst (λ (z : List Monomial). proper z ≡ true)
+pub invariant_of-result : goal.invariant_of-result
+invariant_of-result c = record {
+  ok = subst (λ (z : List Monomial). proper z ≡ true)
       (sym (copied_all _ _ _ c.loop-way.way-index c.loop-way-test.false c.as_slice-way-items.ensures.value c.loop-way.invariant))
-      c.args.p.now.ok,
-  tt,
-)
+      c.args.p.now.ok;
+}
 
 pub returns : goal.returns
 returns c = copied_all _ _ _ c.loop-way.way-index c.loop-way-test.false c.as_slice-way-items.ensures.value c.loop-way.invariant

@@ -51,15 +51,15 @@ loop-ways-preserved c =
     (joining_more (sum (queue (vec_items c.reverse.new.self)) (queue (vec_items c.reverse-2.new.self))) c.args.room (monomials (vec_items c.loop-ways.ways)) c.loop-ways.size (vec_items c.loop-ways.a) (vec_items c.loop-ways.b) c.loop-ways.invariant
     (vec_items c.take_first.new.a) (vec_items c.take_first.new.b) c.in-Some.way t c.in-Some-larger.grown (omega (arith, g.1)) (omega (arith, g.0, g.1)) f)
 
-pub invariant-of-result : goal.invariant-of-result
-invariant-of-result c =
+pub invariant_of-result : goal.invariant_of-result
+invariant_of-result c =
     let n = front_none (sum (queue (vec_items c.reverse.new.self)) (queue (vec_items c.reverse-2.new.self))) c.args.room (monomials (vec_items c.loop-ways.ways)) c.loop-ways.size (vec_items c.loop-ways.a) (vec_items c.loop-ways.b) c.loop-ways.invariant (vec_items c.take_first.new.a) (vec_items c.take_first.new.b) c.in_ok-way.field-0 c.in_default.is c.in_ok-way.ensures in
     let a : List Monomial = poly c.args.p in
-    let b : List Monomial = poly c.args.q in (
-      subst (λ (z : List Monomial). proper z ≡ true) (sym (joining_is (sum (queue (vec_items c.reverse.new.self)) (queue (vec_items c.reverse-2.new.self))) c.args.room (monomials (vec_items c.loop-ways.ways)) c.loop-ways.size (vec_items c.loop-ways.a) (vec_items c.loop-ways.b) c.loop-ways.invariant n ∙ (ap₂ sum (turned (vec_items c.args.p.ways) (vec_items c.reverse.new.self) c.reverse.ensures.items) (turned (vec_items c.args.q.ways) (vec_items c.reverse-2.new.self) c.reverse-2.ensures.items))))
-          (rising_proper (sum a b) (sum_rising a b (proper_rising a c.args.p.ok) (proper_rising b c.args.q.ok))),
-      tt,
-    )
+    let b : List Monomial = poly c.args.q in
+    record {
+      ok = subst (λ (z : List Monomial). proper z ≡ true) (sym (joining_is (sum (queue (vec_items c.reverse.new.self)) (queue (vec_items c.reverse-2.new.self))) c.args.room (monomials (vec_items c.loop-ways.ways)) c.loop-ways.size (vec_items c.loop-ways.a) (vec_items c.loop-ways.b) c.loop-ways.invariant n ∙ (ap₂ sum (turned (vec_items c.args.p.ways) (vec_items c.reverse.new.self) c.reverse.ensures.items) (turned (vec_items c.args.q.ways) (vec_items c.reverse-2.new.self) c.reverse-2.ensures.items))))
+          (rising_proper (sum a b) (sum_rising a b (proper_rising a c.args.p.ok) (proper_rising b c.args.q.ok)));
+    }
 
 pub returns : goal.returns
 returns c =

@@ -1,4 +1,6 @@
 use Rattle.std.proofs.Common.{Some, None, refl, arith}
+use Rattle.std.proofs.lemmas.Bool.Decides.{Decides-eqb}
+use Rattle.std.proofs.lemmas.Slice.Eq.{slice_eq-Decides}
 use Rattle.std.proofs.lemmas.Str.Pattern.{split_parts}
 use Rattle.std.proofs.lemmas.Result.{err_from_is_err_and}
 use Rattle.rules.proofs.Settings.{differs, value_wrong, mark_wrong, others_given, mark_given}
@@ -17,14 +19,14 @@ pub returns-in_err-mark : goal.returns-in_err-mark
 returns-in_err-mark c =
     let p = err_from_is_err_and c.from_residual-in_err-mark.result c.from_residual-in_err-mark.ensures.1 in
     let s = split_parts 61 c.args.word.now (Some (c.in-Some.name, c.in-Some.value)) c.in-Some.ensures.cases (omega arith) in
-    rw (p.1, p.2) (mark_wrong c.args.word.now _ _ s _ (differs c.if-eq.ensures) c.in_err-mark.ensures)
+    rw (p.1, p.2) (mark_wrong c.args.word.now _ _ s _ (differs (slice_eq-Decides Decides-eqb _ _ _ c.if-eq.ensures)) c.in_err-mark.ensures)
 
 pub returns-then-eq : goal.returns-then-eq
 returns-then-eq c =
     let s = split_parts 61 c.args.word.now (Some (c.in-Some.name, c.in-Some.value)) c.in-Some.ensures.cases (omega arith) in
-    others_given c.args.word.now _ _ s _ (c.if-eq.ensures.0 refl) c.in_ok-value.ensures
+    others_given c.args.word.now _ _ s _ ((slice_eq-Decides Decides-eqb _ _ _ c.if-eq.ensures).0 refl) c.in_ok-value.ensures
 
 pub returns : goal.returns
 returns c =
     let s = split_parts 61 c.args.word.now (Some (c.in-Some.name, c.in-Some.value)) c.in-Some.ensures.cases (omega arith) in
-    mark_given c.args.word.now _ _ s _ _ (differs c.if-eq.ensures) c.in_ok-mark.ensures c.in_ok-value.ensures
+    mark_given c.args.word.now _ _ s _ _ (differs (slice_eq-Decides Decides-eqb _ _ _ c.if-eq.ensures)) c.in_ok-mark.ensures c.in_ok-value.ensures

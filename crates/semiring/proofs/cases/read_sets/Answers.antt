@@ -5,5 +5,5 @@ use Rattle.semiring.proofs.cases.read_sets.Goals as goal
 pub returns : goal.returns
 returns c = record {
   read = c.read.ensures.read;
-  means = made_so _ _ (λ xs. sets_mean _ _ _ _ (λ k. let h = c.type-inv.values k in omega arith)) c.read.result c.read.ensures.worth;
+  means = made_so _ _ (λ xs. sets_mean _ _ _ _ (λ k. let h = c.type_inv.values k in omega arith)) c.read.result c.read.ensures.worth;
 }

@@ -4,7 +4,7 @@ use Rattle.semiring.proofs.Marking.{asked_none, asked_more, marking_none, markin
 use Rattle.semiring.proofs.needed.needed_by.Goals as goal
 
 pub loop-node-init : goal.loop-node-init
-loop-node-init c = rw (c.in_ok-needed.ensures.items-if-clones-equal (λ y e. e)) (asked_none _ _ _)
+loop-node-init c = rw (c.in_ok-needed.ensures.items_if_clones_equal (λ y e. e)) (asked_none _ _ _)
 
 pub loop-node-preserved : goal.loop-node-preserved
 loop-node-preserved c =
@@ -13,13 +13,13 @@ loop-node-preserved c =
 pub loop-place-init : goal.loop-place-init
 loop-place-init c = marking_none _ _ _ _ c.loop-node.node-index _ c.loop-node-test.false (omega arith) c.loop-node.invariant
 
-pub index-mut-requires-in-Or : goal.index-mut-requires-in-Or
-index-mut-requires-in-Or c =
+pub index_mut-requires-in-Or : goal.index_mut-requires-in-Or
+index_mut-requires-in-Or c =
     let below = turn_below _ c.requires.sound c.loop-place.place _ _ (omega arith) (omega arith) _ c.known_node.ensures c.in-Or.is in
     omega arith
 
-pub index-mut-requires-in-Or-2 : goal.index-mut-requires-in-Or-2
-index-mut-requires-in-Or-2 c =
+pub index_mut-requires-in-Or-2 : goal.index_mut-requires-in-Or-2
+index_mut-requires-in-Or-2 c =
     let below = turn_below _ c.requires.sound c.loop-place.place _ _ (omega arith) (omega arith) _ c.known_node.ensures c.in-Or.is in
     omega arith
 

@@ -27,7 +27,7 @@ returns-in_err-done g c =
     rw (p.1, p.2) (record { read = stop; worth = tt })
 
 pub pick-requires : goal.pick-requires
-pick-requires g c κs j h =
+pick-requires g c j h =
     let there = c.in_default.ensures.there j h in
     let long = c.in_ok-done.ensures.long in
     let same = ap length c.as_slice.ensures.value in
