@@ -44,6 +44,7 @@ def respelled(name):
         return APART[name]
     parts = [PARTS.get(p, p) for p in name.replace("′", "'").split("-")]
     if name[0].isupper():
+        parts = [q for p in parts for q in p.split("_")]
         return "".join(p[:1].upper() + p[1:] for p in parts)
     return "_".join(parts)
 
@@ -59,7 +60,7 @@ def own_names(top):
                 if line.lstrip().startswith("--") or GOAL.search(line):
                     continue
                 for found in (DECLARED.match(line), HEAD.match(line)):
-                    if found and "-" in found.group(1):
+                    if found and ("-" in found.group(1) or (found.group(1)[0].isupper() and "_" in found.group(1))):
                         own.add(found.group(1))
     return own
 

@@ -19,7 +19,7 @@ use Rattle.circuit.specs.Hints.{half, Started, Linked, Distinct}
 use Rattle.circuit.proofs.NodeLists.{length_nodes_in}
 use Rattle.rows.specs.declared.memory.Region.{Region}
 use Rattle.rows.specs.Memory.{held}
-use Rattle.rows.specs.Notes.{Can, Goes_on, InOrder, room_in, stored_notes}
+use Rattle.rows.specs.Notes.{Can, GoesOn, InOrder, room_in, stored_notes}
 use Rattle.engine.specs.Weighed.{Weighed}
 use Rattle.engine.specs.Weighed as engine
 use Rattle.provenance.specs.Answer.{Answered}
@@ -80,7 +80,7 @@ sound_long m s =
 
 -- the tables in m, signs xs, the nodes and hints before, when the store was made anew, and after the query was run, and the work row then
 module _ (m xs : List ℕ) (n work-size nodes_size out-size : ℕ) (ready : Ready m xs work-size nodes_size out-size n)
-    (m₀ m₁ m₂ h₀ h₁ h₂ : List ℕ) (started : Started m₀ m₁ h₀ h₁) (goes : Goes_on n (stored_notes m₁ h₁) (stored_notes m₂ h₂))
+    (m₀ m₁ m₂ h₀ h₁ h₂ : List ℕ) (started : Started m₀ m₁ h₀ h₁) (goes : GoesOn n (stored_notes m₁ h₁) (stored_notes m₂ h₂))
     (work : List ℕ) (r : Region) (ran : engine.Answers (stored_notes m₂ h₂) m xs n work r)
     (long₀ : length m₀ ≡ nodes_size) (long₂ : length m₂ ≡ length m₁) (wide₂ : length h₂ ≡ length h₁) (hints : 4 + 4 * n ≤ length h₀) where
   in_order : InOrder m₂ h₂

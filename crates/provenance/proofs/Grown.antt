@@ -9,19 +9,19 @@ use Rattle.circuit.specs.Held.{NamesEarlier, stands}
 use Rattle.circuit.proofs.NodeExprs.{expr_node, expr_before}
 
 -- the nodes ms go on from ns: what stood still stands for the same
-pub record Goes_on (ns ms : List Node) : Type 0 where
+pub record GoesOn (ns ms : List Node) : Type 0 where
   pub longer : length ns ≤ length ms
   pub same : (k : ℕ) → k < length ns → expr_of ms k ≡ expr_of ns k
 
 -- nodes that go on from ns and hold e at a place
 pub record Grown (ns : List Node) (e : Expr) : Type 0 where
   pub nodes : List Node
-  pub goes_on : Goes_on ns nodes
+  pub goes_on : GoesOn ns nodes
   pub place : ℕ
   pub there : place < length nodes
   pub stands_for : expr_of nodes place ≡ e
 
-pub goes_on_on : {ns ms ks : List Node} → Goes_on ns ms → Goes_on ms ks → Goes_on ns ks
+pub goes_on_on : {ns ms ks : List Node} → GoesOn ns ms → GoesOn ms ks → GoesOn ns ks
 goes_on_on a b = record { longer = omega arith; same = λ k h. b.same k (omega arith) ∙ a.same k h }
 
 stands_same : (ns ms : List Node) (n : Node) → NamesEarlier (length ns) n → stands (ns ++ ms) n ≡ stands ns n

@@ -15,7 +15,7 @@ use Rattle.provenance.specs.Ways.{Time, times, often}
 use Rattle.provenance.specs.Reading.{SomeAnswer}
 use Rattle.provenance.proofs.Rising.{true_before}
 use Rattle.provenance.proofs.WayByWay.{some_way}
-use Rattle.provenance.proofs.Grown.{Goes_on, goes_on_on, grown}
+use Rattle.provenance.proofs.Grown.{GoesOn, goes_on_on, grown}
 use Rattle.provenance.proofs.InOrder.{Rise, in_order, in_order_rises, in_order_back, in_order_comes}
 
 -- what holds of each entry of an answer holds of what is listed there
@@ -61,7 +61,7 @@ module _ (ts : List (List Row)) (q : Query) where
   -- nodes that go on from ns, and an answer over them with the rows rs
   record Written (ns : List Node) (rs : List Row) : Type 0 where
     nodes : List Node
-    goes_on : Goes_on ns nodes
+    goes_on : GoesOn ns nodes
     out : List Answer
     has_rows : rows out ≡ rs
     right : All (λ a. Right nodes a.row a.node) out

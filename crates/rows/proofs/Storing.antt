@@ -9,7 +9,7 @@ use Rattle.circuit.specs.Store.{nodes_in}
 use Rattle.circuit.specs.Held.{NamesEarlier, Pushed, Put, count_in}
 use Rattle.circuit.specs.Hints.{half, Shares}
 use Rattle.circuit.proofs.NodeLists.{length_nodes_in}
-use Rattle.rows.specs.Notes.{Goes_on, Names, room_in, stored_notes}
+use Rattle.rows.specs.Notes.{GoesOn, Names, room_in, stored_notes}
 
 module _ (m m' hints hints' : List ℕ) (n : Node) (p : ℕ) (put : Put m m' n p) where
   -- where nothing is added nothing changes, and else there is one node more
@@ -25,7 +25,7 @@ module _ (m m' hints hints' : List ℕ) (n : Node) (p : ℕ) (put : Put m m' n p
   one_more : Pushed m m' n p → count_in m' ≡ count_in m + 1
   one_more h = sym (length_nodes_in m') ∙ ap length h.nodes ∙ length_push (nodes_in m) n ∙ ap (λ k. k + 1) (length_nodes_in m)
 
-  pub put_goes : Shares m m' hints hints' → NamesEarlier (count_in m) n → 1 ≤ room_in m hints - count_in m → Goes_on 1 (stored_notes m hints) (stored_notes m' hints')
+  pub put_goes : Shares m m' hints hints' → NamesEarlier (count_in m) n → 1 ≤ room_in m hints - count_in m → GoesOn 1 (stored_notes m hints) (stored_notes m' hints')
   put_goes shares earlier room =
       let g = put.grown in
       let wide : half hints' ≡ half hints = ap (λ l. l / 2) shares.same_length in
