@@ -41,7 +41,7 @@ fn gather_by<'a>(
     let spare = &mut spare[0..count];
     load(work, rows, entries);
     merge_up(entries, spare);
-    entries.sort();
+    entries.sort_unstable();
     let count = merge(entries, rows.width, nodes, hints, out);
     out[0] = count as u64;
     count

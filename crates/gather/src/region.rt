@@ -1,11 +1,11 @@
 //! The rows of a query in a work row: nine numbers each, a node and up to eight cells.
-ghost use Rattle.std.specs.Prelude.{◌≡◌, ◌+◌, ◌*◌, ◌<◌, ◌≤◌, map, length};
-ghost use Rattle.std.specs.Cmp.Lexicographic.{Lex};
-ghost use Rattle.std.specs.Ordering.{MatchOrdering};
+ghost use Rattle.std.specs.Prelude.{◌≡◌, ◌+◌, ◌*◌, ◌<◌, ◌≤◌, map, length, nat_eq};
+ghost use Rattle.std.specs.Cmp.{partial_order_from_own_ties};
+ghost use Rattle.std.specs.Cmp.Lexicographic.{pointwise, slice_cmp};
+ghost use Rattle.std.specs.Ordering.{as_partial_cmp, nat_cmp, on};
 ghost use Rattle.gather.specs.Gathered.{answer_of, region_rows};
 ghost use Rattle.std.specs.Cmp.Rules.{comparing};
 ghost use Rattle.std.proofs.Common.{rules};
-ghost use Rattle.std.specs.Cmp as Keys;
 
 use rows::Region;
 use std::cmp::Ordering;
@@ -20,7 +20,9 @@ pub struct Entry<'a> {
 }
 
 impl<'a> PartialEq for Entry<'a> {
-    ghost laws = { Keys.partial_equiv_from_equiv (Prim.search (comparing, rules)) };
+    ghost eq = { on (λ e. e.cells.now) (pointwise nat_eq) };
+
+    ghost laws = { Prim.search (comparing, rules) };
 
     fn eq(&self, other: &Entry<'a>) -> bool {
         self.cells == other.cells
@@ -32,7 +34,9 @@ impl<'a> Eq for Entry<'a> {
 }
 
 impl<'a> PartialOrd for Entry<'a> {
-    ghost laws = { Prim.search (comparing, rules) };
+    ghost partial_cmp = { as_partial_cmp (on (λ e. e.cells.now) (slice_cmp nat_cmp)) };
+
+    ghost laws = { partial_order_from_own_ties (Prim.search (comparing, rules)) (Prim.search (comparing, rules)) };
 
     fn partial_cmp(&self, other: &Entry<'a>) -> Option<Ordering> {
         Some(self.cmp(other))
@@ -40,7 +44,7 @@ impl<'a> PartialOrd for Entry<'a> {
 }
 
 impl<'a> Ord for Entry<'a> {
-    ghost orders = { λ a b. Lex (λ x y r. MatchOrdering r (x < y) (x ≡ y) (y < x)) a.cells.now b.cells.now };
+    ghost cmp = { on (λ e. e.cells.now) (slice_cmp nat_cmp) };
 
     ghost total = { Prim.search (comparing, rules) };
 

@@ -1,6 +1,4 @@
 use Rattle.std.proofs.Common.{◌≡◌, ℕ, ◌+◌, ◌-◌, ◌*◌, List, [], ◌∷◌, map, length, drop, sum_by, sym, refl, ap, ◌∙◌, arith}
-use Rattle.std.specs.Cmp.{nat_cmp_total}
-use Rattle.std.specs.Cmp.Derive.{on}
 use Rattle.std.specs.List.Sorted.{IsPermutation}
 use Rattle.std.proofs.lemmas.List.{length-drop}
 use Rattle.std.proofs.lemmas.List.Sorted.{sum_by-IsPermutation}
@@ -13,7 +11,6 @@ use Rattle.gather.proofs.Ordering.{in_order}
 use Rattle.gather.proofs.Together.{SameSums}
 use Rattle.gather.proofs.Whole.{wide_apart, wide_same, ready_same, written}
 use Rattle.gather.proofs.gathering.gather_by.Goals as goal
-use Rattle.std.specs.Cmp.Lexicographic.{lists_total}
 
 sum_rows : (f : Answer → ℕ) (es : List Entry) → sum_by f (map answer_of es) ≡ sum_by (λ e. f (answer_of e)) es
 sum_rows f [] = refl
@@ -27,15 +24,15 @@ rows_same rows es merged sorted e r s f =
 
 pub merge-count-requires : goal.merge-count-requires
 merge-count-requires c =
-    let same = rows_same _ _ _ _ c.load.ensures c.merge_up.ensures c.sort.ensures.permutation in
+    let same = rows_same _ _ _ _ c.load.ensures c.merge_up.ensures c.sort_unstable.ensures.permutation in
     let first : ℕ = 9 * c.args.rows.first in
     let left : length (drop first c.args.work.now) ≡ length c.args.work.now - first = length-drop first c.args.work.now in
     record {
-      order = in_order c.sort.new.self _ c.sort.ensures.len (c.sort.ensures.sorted (on (λ (e : Entry). e.cells.now) (lists_total nat_cmp_total)));
+      order = in_order c.sort_unstable.new.self _ refl c.sort_unstable.ensures.sorted;
       wide = wide_same _ _ same _ (wide_apart 9 c.args.rows.width c.args.rows.count (drop first c.args.work.now) (omega arith) (omega arith));
       ready = ready_same _ _ same _ _ _ c.requires.ready;
     }
 
 pub returns : goal.returns
 returns c =
-    written _ _ (rows_same _ _ _ _ c.load.ensures c.merge_up.ensures c.sort.ensures.permutation) _ _ _ _ _ _ _ _ (omega arith) c.merge-count.ensures
+    written _ _ (rows_same _ _ _ _ c.load.ensures c.merge_up.ensures c.sort_unstable.ensures.permutation) _ _ _ _ _ _ _ _ (omega arith) c.merge-count.ensures

@@ -6,7 +6,7 @@ use Rattle.gather.specs.declared.region.Entry.{Entry}
 use Rattle.gather.specs.Gathered.{answer_of}
 use Rattle.gather.proofs.Underway.{underway_none, underway_space, underway_counted, underway_room, underway_joins, underway_apart, underway_all, underway_meets, merged_none}
 use Rattle.gather.proofs.merging.merge.Goals as goal
-use Rattle.gather.proofs.merging.merge.Goals.{then_Equal, else-equal}
+use Rattle.gather.proofs.merging.merge.Goals.{then-equal, else-equal}
 
 long : (es : List Entry) → length (map answer_of es) ≡ length es
 long es = length-map es answer_of
@@ -54,7 +54,7 @@ loop-i-preserved c =
     let there : c.loop-i.i < length (map answer_of c.args.entries.now) = omega arith in
     let is = row_is c.args.entries.now c.loop-i.i (omega arith) in
     elim c.if-equal.branch [
-      | then_Equal w ↦
+      | then-equal w ↦
           underway_meets _ _ _ _ _ _ _ _ _ _ _ _ _ _ _ _ w.nodes-is w.hints-is w.out-is w.last-is w.written-is
           (underway_joins _ _ _ _ _ c.requires.order c.requires.wide c.requires.ready _ _ _ _ _ _ c.loop-i.invariant there _ is
           (c.equal.ensures.0 w.if-equal.true) w.join.new.nodes w.join.new.hints w.join.result w.join.ensures.store w.join.ensures.counts)

@@ -15,4 +15,4 @@ returns c =
     let e = subst (λ (o : Outcome). FileRead o c.answers_in.result)
     (sym (file_read c.args.bytes.now _ c.in_ok-numbers.numbers c.in_ok-numbers.ensures c.as_slice.ensures.value))
     c.answers_in.ensures in
-    record { read = e; only = only_files c.args.bytes.now c.answers_in.result (λ i. (c.type-inv.bytes i).fits) e }
+    record { read = e; only = only_files c.args.bytes.now c.answers_in.result (λ i. (c.type_inv.bytes i).fits) e }
