@@ -13,8 +13,8 @@ returns-in_default-weigh c =
     let k = known _ _ c.in_default.field-0 c.in_default-parse.field-0 c.in_default.ensures c.in_default-parse.ensures in
     refused_heavy _ _ k _ _ _ c.in_default-weigh.ensures
 
-pub overflow-mul-weight : goal.overflow-mul-weight
-overflow-mul-weight c =
+pub overflow_mul-weight : goal.overflow_mul-weight
+overflow_mul-weight c =
     let k = known _ _ c.in_default.field-0 c.in_default-parse.field-0 c.in_default.ensures c.in_default-parse.ensures in
     let l : c.in-Some.weight ≤ 8192 = light _ _ k 0 0 0 c.in-Some.weight c.in-Some.ensures in
     omega arith

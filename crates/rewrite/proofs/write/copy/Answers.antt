@@ -8,8 +8,8 @@ pub loop-part-init : goal.loop-part-init
 unfolding together
 loop-part-init c = (refl, omega arith, refl)
 
-pub slice-bounds-copy_from_slice-end : goal.slice-bounds-copy_from_slice-end
-slice-bounds-copy_from_slice-end c =
+pub slice_bounds-copy_from_slice-end : goal.slice_bounds-copy_from_slice-end
+slice_bounds-copy_from_slice-end c =
     let more = left_more c.args.parts.now c.loop-part.part-index (record { ref_ptr = (0, 0); now = [] }) c.loop-part-test.true in
     omega (arith, c.loop-part.invariant.1, c.requires, c.loop-part.auto.into)
 
