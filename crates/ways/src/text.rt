@@ -5,10 +5,9 @@ ghost use Rattle.ways.specs.Text.{led, parted, count_text, marks_text, ways_text
 
 use polynomial::Way;
 use std::alloc::{AllocError, Global};
-use std::fmt;
 
 /// Writes each number with `before` before it.
-fn write_led(text: &mut String, before: &str, numbers: &[u64]) -> fmt::Result
+fn write_led(text: &mut String, before: &str, numbers: &[u64]) -> Result<(), AllocError>
     ensures { OnOk result (string_bytes text.new ≡
         string_bytes text.old ++ led before.now numbers.now) }
 {
@@ -19,7 +18,7 @@ fn write_led(text: &mut String, before: &str, numbers: &[u64]) -> fmt::Result
 }
 
 /// Writes numbers with `between` between them.
-fn write_parted(text: &mut String, between: &str, numbers: &[u64]) -> fmt::Result
+fn write_parted(text: &mut String, between: &str, numbers: &[u64]) -> Result<(), AllocError>
     ensures { OnOk result (string_bytes text.new ≡
         string_bytes text.old ++ parted between.now numbers.now) }
 {
@@ -32,7 +31,7 @@ fn write_parted(text: &mut String, between: &str, numbers: &[u64]) -> fmt::Resul
 }
 
 /// Writes the count of a way and an x, unless it occurs once.
-fn write_count(text: &mut String, count: u64) -> fmt::Result
+fn write_count(text: &mut String, count: u64) -> Result<(), AllocError>
     ensures { OnOk result (string_bytes text.new ≡ string_bytes text.old ++ count_text count) }
 {
     if count == 1 {
@@ -42,7 +41,7 @@ fn write_count(text: &mut String, count: u64) -> fmt::Result
 }
 
 /// Writes the marks of a way with a plus between them, or a dash if there is none.
-fn write_marks(text: &mut String, marks: &[u64]) -> fmt::Result
+fn write_marks(text: &mut String, marks: &[u64]) -> Result<(), AllocError>
     ensures { OnOk result (string_bytes text.new ≡ string_bytes text.old ++ marks_text marks.now) }
 {
     if marks.is_empty() {
@@ -52,7 +51,7 @@ fn write_marks(text: &mut String, marks: &[u64]) -> fmt::Result
 }
 
 /// Writes each way with a blank before it.
-fn write_ways(text: &mut String, ways: &[Way]) -> fmt::Result
+fn write_ways(text: &mut String, ways: &[Way]) -> Result<(), AllocError>
     ensures { OnOk result (string_bytes text.new ≡
         string_bytes text.old ++ ways_text (monomials ways.now)) }
 {
@@ -65,7 +64,7 @@ fn write_ways(text: &mut String, ways: &[Way]) -> fmt::Result
 }
 
 /// Writes a row and its ways: the cells with blanks between them, a colon, and each way with a blank before it.
-fn write_line(text: &mut String, row: &[u64], ways: &[Way]) -> fmt::Result
+fn write_line(text: &mut String, row: &[u64], ways: &[Way]) -> Result<(), AllocError>
     ensures { OnOk result (string_bytes text.new ≡
         string_bytes text.old ++ line_text row.now (monomials ways.now)) }
 {
@@ -81,8 +80,6 @@ pub fn line(heap: Global, row: &[u64], ways: &[Way]) -> Result<String, AllocErro
     ensures { IfOk result (λ s. string_bytes s ≡ line_text row.now (monomials ways.now)) }
 {
     let mut text = String::new(heap);
-    match write_line(&mut text, row, ways) {
-        Ok(()) => Ok(text),
-        Err(_) => Err(AllocError),
-    }
+    write_line(&mut text, row, ways)?;
+    Ok(text)
 }

@@ -3,12 +3,12 @@ use Rattle.circuit.specs.Held.{NamesEarlier}
 use Rattle.ways.proofs.Expanding.{told_or, told_both}
 use Rattle.ways.proofs.expansion.expand_node.Goals as goal
 
-pub returns-in_ok-q : goal.returns-in_ok-q
-returns-in_ok-q c =
+pub returns-in_ok-q-in-Or : goal.returns-in_ok-q-in-Or
+returns-in_ok-q-in-Or c =
     let l = subst (NamesEarlier (length c.args.made.now)) c.in-Or.is c.requires in
     told_or c.args.room c.args.made.now c.in-Or.a c.in-Or.b c.index-made-a.result c.index-made-b.result c.args.node c.add.result
-    l.0 l.1 c.index-made-a.is c.index-made-b.is c.in_ok-p.p c.in_ok-q.q
-    c.in_ok-p.ensures c.in_ok-q.ensures c.in-Or.is c.add.ensures
+    l.0 l.1 c.index-made-a.is c.index-made-b.is c.in_ok-p-in-Or.p c.in_ok-q-in-Or.q
+    c.in_ok-p-in-Or.ensures c.in_ok-q-in-Or.ensures c.in-Or.is c.add.ensures
 
 pub returns-in-Both : goal.returns-in-Both
 returns-in-Both c =
