@@ -114,14 +114,14 @@ fn run(rt: &HostRuntime) -> anyhow::Result<()> {
         Ok(command) => command,
         Err(error) => {
             rt.eprintln(USAGE)?;
-            return Err(complaint(error).into());
+            return Err(anyhow!(complaint(error)));
         }
     };
     let mut bytes = Vec::new(heap);
     rt.stdin().read_to_end(&mut bytes)?;
     let answers = match decode(heap, bytes.as_slice()) {
         Ok(answers) => answers,
-        Err(error) => return Err(damage(error).into()),
+        Err(error) => return Err(anyhow!(damage(error))),
     };
     for (i, answer) in answers.as_slice().iter().enumerate() {
         if i > 0 {
