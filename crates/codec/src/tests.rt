@@ -54,8 +54,11 @@ fn the_first_faulty_table_is_told(rt: HostRuntime) {
 fn tables_are_read_low_byte_first(rt: HostRuntime) -> Result<(), Fail> {
     let bytes = [1, 1, 1, 1, 2, 0, 0, 0, 0, 0, 128, 77];
     let tables = tables_in(rt.alloc(), &bytes).ok().ok_or("the table fits")?;
-    assert_eq!(rt; tables.numbers.as_slice(), &[1, 1, 1, 9223372036854776321]);
-    assert_eq!(rt; tables.rest, &[77]);
+    assert_eq!(rt;
+        tables.numbers.as_slice(),
+        [1, 1, 1, 9223372036854776321].as_slice()
+    );
+    assert_eq!(rt; tables.rest, [77].as_slice());
     Ok(())
 }
 
@@ -81,8 +84,8 @@ fn a_query_is_cut_off_at_an_operator(rt: HostRuntime) -> Result<(), Fail> {
     let query = query_in(heap, &[1, 0, 1, 255, 0, 0, 0, 3])
         .ok()
         .ok_or("the query is there")?;
-    assert_eq!(rt; query.numbers.as_slice(), &[0, 1, 255, 0, 0, 0]);
-    assert_eq!(rt; query.rest, &[3]);
+    assert_eq!(rt; query.numbers.as_slice(), [0, 1, 255, 0, 0, 0].as_slice());
+    assert_eq!(rt; query.rest, [3].as_slice());
     Ok(())
 }
 

@@ -15,7 +15,7 @@ fn counts_with_prices(rt: HostRuntime) -> Result<(), Fail> {
     };
     let values = [(2, Price::Whole(5)), (3, Price::Whole(u64::MAX))];
     let sum = read(rt.alloc(), &both, &NODES, &[2], &values)?;
-    assert_eq!(rt; sum.as_slice(), &[(5, Price::Whole(5))]);
+    assert_eq!(rt; sum.as_slice(), [(5, Price::Whole(5))].as_slice());
     let dear = read(rt.alloc(), &both, &NODES, &[3], &values).err();
     assert_eq!(rt;
         dear,
@@ -38,7 +38,7 @@ fn levels_beside_them(rt: HostRuntime) -> Result<(), Fail> {
     let rows = read(rt.alloc(), &all, &NODES, &[2, 3], &values)?;
     assert_eq!(rt;
         rows.as_slice(),
-        &[(3, (5, Price::Whole(5))), (1, (6, Price::None))]
+        [(3, (5, Price::Whole(5))), (1, (6, Price::None))].as_slice()
     );
     Ok(())
 }

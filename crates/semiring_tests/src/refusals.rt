@@ -47,11 +47,11 @@ fn a_mark_without_a_value(rt: HostRuntime) -> Result<(), Fail> {
     let last = read_counts(heap, &NODES, &[2, 0, 2], &[5, 6, 7])?;
     assert_eq!(rt;
         last.as_slice(),
-        &[7, 5, 7],
+        [7, 5, 7].as_slice(),
         "the last value, and a node twice"
     );
     let fewer = read_counts(heap, &NODES, &[5], &[2, 3])?;
-    assert_eq!(rt; fewer.as_slice(), &[30], "mark 2 is not needed");
+    assert_eq!(rt; fewer.as_slice(), [30].as_slice(), "mark 2 is not needed");
     assert_eq!(rt;
         read_counts(heap, &[2, 2, 9, 0, 2, 5, 0], &[1, 0], &[]).err(),
         Some(ReadError::NoValue(9)),
@@ -69,7 +69,7 @@ fn a_mark_without_a_value(rt: HostRuntime) -> Result<(), Fail> {
 fn a_value_that_is_too_large(rt: HostRuntime) -> Result<(), Fail> {
     let heap = rt.alloc();
     let most = read_counts(heap, &NODES, &[3], &[MAX, 0])?;
-    assert_eq!(rt; most.as_slice(), &[MAX], "the largest count");
+    assert_eq!(rt; most.as_slice(), [MAX].as_slice(), "the largest count");
     assert_eq!(rt;
         read_counts(heap, &NODES, &[3], &[MAX, 1]).err(),
         Some(ReadError::Overflow(3)),
@@ -81,12 +81,16 @@ fn a_value_that_is_too_large(rt: HostRuntime) -> Result<(), Fail> {
         "the first by place"
     );
     let other = read_counts(heap, &NODES, &[3], &[1 << 32, 1 << 32])?;
-    assert_eq!(rt; other.as_slice(), &[1 << 33], "node 4 is not needed");
+    assert_eq!(rt;
+        other.as_slice(),
+        [1 << 33].as_slice(),
+        "node 4 is not needed"
+    );
     let powers = [4, 2, 0, 0, 4, 0, 0, 4, 1, 0, 4, 2, 0];
     let third = read_counts(heap, &powers, &[2], &[1_000_000])?;
     assert_eq!(rt;
         third.as_slice(),
-        &[1_000_000_000_000_000_000],
+        [1_000_000_000_000_000_000].as_slice(),
         "a million, its third power"
     );
     assert_eq!(rt;
@@ -107,11 +111,22 @@ fn a_price_that_is_too_large(rt: HostRuntime) -> Result<(), Fail> {
         "one more"
     );
     let least = read_prices(heap, &NODES, &[3], &dear)?;
-    assert_eq!(rt; least.as_slice(), &[Price::Whole(1)], "the cheaper one");
+    assert_eq!(rt;
+        least.as_slice(),
+        [Price::Whole(1)].as_slice(),
+        "the cheaper one"
+    );
     let free = read_prices(heap, &NODES, &[4], &[Price::Whole(MAX), Price::Whole(0)])?;
-    assert_eq!(rt; free.as_slice(), &[Price::Whole(MAX)], "the largest price");
+    assert_eq!(rt;
+        free.as_slice(),
+        [Price::Whole(MAX)].as_slice(),
+        "the largest price"
+    );
     let gone = read_prices(heap, &NODES, &[3, 4], &[Price::Whole(MAX), Price::None])?;
-    assert_eq!(rt; gone.as_slice(), &[Price::Whole(MAX), Price::None]);
+    assert_eq!(rt;
+        gone.as_slice(),
+        [Price::Whole(MAX), Price::None].as_slice()
+    );
     Ok(())
 }
 

@@ -18,14 +18,22 @@ const ROWS: [u64; 4] = [9, 10, 13, 16];
 fn counts(rt: HostRuntime) -> Result<(), Fail> {
     let mut values = [1; 1027];
     let all = read_counts(rt.alloc(), &NODES, &ROWS, &values)?;
-    assert_eq!(rt; all.as_slice(), &[2, 1, 2, 2], "every row once");
+    assert_eq!(rt; all.as_slice(), [2, 1, 2, 2].as_slice(), "every row once");
     values[1025] = 0;
     let without = read_counts(rt.alloc(), &NODES, &ROWS, &values)?;
-    assert_eq!(rt; without.as_slice(), &[1, 1, 0, 2], "without row 1025");
+    assert_eq!(rt;
+        without.as_slice(),
+        [1, 1, 0, 2].as_slice(),
+        "without row 1025"
+    );
     values[1025] = 1;
     values[3] = 3;
     let more = read_counts(rt.alloc(), &NODES, &ROWS, &values)?;
-    assert_eq!(rt; more.as_slice(), &[2, 1, 4, 4], "row 3 three times");
+    assert_eq!(rt;
+        more.as_slice(),
+        [2, 1, 4, 4].as_slice(),
+        "row 3 three times"
+    );
     Ok(())
 }
 
@@ -36,11 +44,11 @@ fn levels(rt: HostRuntime) -> Result<(), Fail> {
     values[1024] = 3;
     values[1026] = 1;
     let levels = read_levels(rt.alloc(), 3, &NODES, &ROWS, &values)?;
-    assert_eq!(rt; levels.as_slice(), &[3, 1, 2, 1]);
+    assert_eq!(rt; levels.as_slice(), [3, 1, 2, 1].as_slice());
     values[0] = 4;
     values[1024] = u64::MAX;
     let capped = read_levels(rt.alloc(), 3, &NODES, &ROWS, &values)?;
-    assert_eq!(rt; capped.as_slice(), &[3, 1, 2, 1], "above the top");
+    assert_eq!(rt; capped.as_slice(), [3, 1, 2, 1].as_slice(), "above the top");
     Ok(())
 }
 
@@ -61,11 +69,15 @@ fn prices(rt: HostRuntime) -> Result<(), Fail> {
         Price::Whole(11),
         Price::Whole(8),
     ];
-    assert_eq!(rt; prices.as_slice(), &expected);
+    assert_eq!(rt; prices.as_slice(), expected.as_slice());
     values[1026] = Price::None;
     let fewer = read_prices(rt.alloc(), &NODES, &ROWS, &values)?;
     let expected = [Price::Whole(6), Price::None, Price::Whole(11), Price::None];
-    assert_eq!(rt; fewer.as_slice(), &expected, "row 1026 is not to be had");
+    assert_eq!(rt;
+        fewer.as_slice(),
+        expected.as_slice(),
+        "row 1026 is not to be had"
+    );
     Ok(())
 }
 
@@ -76,6 +88,6 @@ fn one_row_that_suffices(rt: HostRuntime) -> Result<(), Fail> {
     values[1025] = 2;
     values[1026] = 4;
     let sets = read_sets(rt.alloc(), &NODES, &ROWS, &values)?;
-    assert_eq!(rt; sets.as_slice(), &[3, 4, 2, 4]);
+    assert_eq!(rt; sets.as_slice(), [3, 4, 2, 4].as_slice());
     Ok(())
 }

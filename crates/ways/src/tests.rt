@@ -147,18 +147,21 @@ fn room_that_is_just_enough(rt: HostRuntime) -> Result<(), Fail> {
 #[test]
 fn the_first_fault_is_told(rt: HostRuntime) -> Result<(), Fail> {
     let heap = rt.alloc();
-    check_refused(&rt, heap, &[], 7, 9, WaysError::Node(0)).note("empty memory")?;
-    check_refused(&rt, heap, &[2, 1, 0, 0, 2, 5], 0, 9, WaysError::Node(1)).note("cut off")?;
-    check_refused(&rt, heap, &[2, 1, 0, 0, 5, 0, 0], 7, 9, WaysError::Node(1)).note(
-        "unknown kind",
-    )?;
-    check_refused(&rt, heap, &[1, 3, 0, 0], 0, 9, WaysError::Node(0)).note("names itself")?;
-    check_refused(&rt, heap, &[2, 4, 1, 1, 1, 0, 0], 1, 9, WaysError::Node(0)).note(
-        "names a later node",
-    )?;
+    // empty memory
+    check_refused(&rt, heap, &[], 7, 9, WaysError::Node(0))?;
+    // cut off
+    check_refused(&rt, heap, &[2, 1, 0, 0, 2, 5], 0, 9, WaysError::Node(1))?;
+    // unknown kind
+    check_refused(&rt, heap, &[2, 1, 0, 0, 5, 0, 0], 7, 9, WaysError::Node(1))?;
+    // names itself
+    check_refused(&rt, heap, &[1, 3, 0, 0], 0, 9, WaysError::Node(0))?;
+    // names a later node
+    check_refused(&rt, heap, &[2, 4, 1, 1, 1, 0, 0], 1, 9, WaysError::Node(0))?;
     let nodes = store(&SHIPS);
-    check_refused(&rt, heap, &nodes, 19, 9, WaysError::Node(19)).note("not there")?;
-    check_refused(&rt, heap, &nodes, u64::MAX, 0, WaysError::Node(u64::MAX)).note("before the room")
+    // not there
+    check_refused(&rt, heap, &nodes, 19, 9, WaysError::Node(19))?;
+    // before the room
+    check_refused(&rt, heap, &nodes, u64::MAX, 0, WaysError::Node(u64::MAX))
 }
 
 #[test]

@@ -15,6 +15,6 @@ fn years(rt: HostRuntime) -> Result<(), Fail> {
         &[3, 4],
         &[0b0011, 0b1100, 0b0110],
     )?;
-    assert_eq!(rt; rows.as_slice(), &[0b1111, 0b0110]);
+    assert_eq!(rt; rows.as_slice(), [0b1111, 0b0110].as_slice());
     Ok(())
 }
