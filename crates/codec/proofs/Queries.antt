@@ -1,10 +1,10 @@
 -- Reading one query. Assumes nothing.
-use Rattle.std.proofs.Common.{◌≡◌, ℕ, ◌-◌, ◌*◌, ◌/◌, ◌<◌, ◌≤◌, leb, List, [], ◌∷◌, length, get_or, take, drop, sym, refl, ◌∙◌, arith, le-leb}
+use Rattle.std.proofs.Common.{◌≡◌, ℕ, ◌-◌, ◌*◌, ◌/◌, ◌<◌, ◌≤◌, leb, List, [], ◌∷◌, length, get_or, take, drop, refl, ◌∙◌, arith, le-leb}
 use native.Mathlib.Nat.{sub-zero}
 use borrow.Author.Tests.{lt-leb}
 use Rattle.std.proofs.lemmas.List.{take_rest}
 use Rattle.tables.specs.Bool.{pick}
-use Rattle.codec.specs.Input.{Read, read, faulty, read_query}
+use Rattle.codec.specs.Input.{read, faulty, read_query}
 
 pub none_cut : (bs : List ℕ) → length bs < 1 → read_query bs ≡ faulty 0
 unfolding read_query

@@ -3,7 +3,7 @@ use Rattle.std.proofs.Common.{◌≡◌, ℕ, ◌<◌, Bool, true, false, List, 
 use Rattle.rules.specs.declared.error.ArgumentError.{ArgumentError}
 use Rattle.rules.specs.declared.error.ArgumentError.TheVariants.{NoMemory, UnknownRule, NoTop, NoSetting, NoNumber, NoMark}
 use Rattle.rules.specs.declared.setting.Setting.TheVariants.{Mark, Others}
-use Rattle.rules.specs.Words.{NumberRead, MarkRead, Split, Parted, SettingRead}
+use Rattle.rules.specs.Words.{NumberRead, MarkRead, Split, SettingRead}
 
 -- a test that fails
 pub differs : {P : Type 0} → ((◌≡◌ {A = Bool} false true → P) × (P → ◌≡◌ {A = Bool} false true)) → P → ⊥

@@ -1,12 +1,10 @@
 -- One step of reading answers. Assumes nothing.
-use Rattle.std.proofs.Common.{◌≡◌, ℕ, suc, ◌+◌, ◌-◌, ◌<◌, ◌≤◌, eqb, List, [], ◌∷◌, ◌++◌, map, length, get_or, take, drop, Ok, Err, vec_items, Result, Vec, sym, refl, ap, ◌∙◌, append_assoc, append-nil, add-one, arith, le-leb}
+use Rattle.std.proofs.Common.{◌≡◌, ℕ, suc, ◌+◌, ◌-◌, ◌<◌, ◌≤◌, List, [], ◌∷◌, ◌++◌, map, length, get_or, take, drop, Ok, Err, vec_items, Vec, sym, refl, ap, ◌∙◌, append_assoc, append-nil, add-one, arith, le-leb}
 use native.Mathlib.Nat.{sub-zero}
 use borrow.Author.Tests.{lt-leb}
 use Rattle.std.proofs.lemmas.List.{take_rest, map_push}
 use Rattle.std.proofs.lemmas.Bool.{eq-eqb, ne_eqb}
-use Rattle.std.proofs.lemmas.Bool.Decides.{nat_tests}
 use Rattle.std.specs.declared.alloc.Global.{Global}
-use Rattle.tables.specs.Bool.{pick}
 use Rattle.stored.specs.declared.Answer.{Answer}
 use Rattle.stored.specs.declared.error.FileError.{FileError}
 use Rattle.stored.specs.declared.error.FileError.TheVariants.{NoMemory, Uneven, NotStored, Version, Width, CutOff, LeftOver}

@@ -1,7 +1,6 @@
-use Rattle.std.proofs.Common.{◌≡◌, ◌<◌, [], ◌∷◌, length, get_or, sym, ap, ◌∙◌, arith, rules}
+use Rattle.std.proofs.Common.{◌<◌, length, get_or, arith, rules}
 use native.Mathlib.Nat.{sub-zero}
 use Rattle.std.proofs.lemmas.List.{take_rest, get_or_past}
-use Rattle.codec.specs.Input.{read_tables, behind, tables_from}
 use Rattle.codec.proofs.Tables.{first_pushed, none_read, many_read, start_read, read_on, read_off, read_end}
 use Rattle.codec.proofs.tables_form.tables_in.Goals as goal
 
