@@ -1,6 +1,6 @@
 -- The rows of a region, as those that run a query and those that gather its rows see them. Assumes nothing.
 use Rattle.std.proofs.Common.{◌≡◌, ℕ, zero, suc, ◌+◌, ◌*◌, ◌<◌, ◌≤◌, List, [], ◌∷◌, map, length, get_or, take, drop, sym, refl, ap, ◌∙◌, ap₂, add-zero, arith}
-use Rattle.std.specs.List.{AllByRecursion as All}
+use Rattle.std.specs.List.{AllByRecursion}
 use Rattle.std.proofs.lemmas.List.{drop-drop, get_or-drop, take-take}
 use Rattle.query.specs.Query.{Annotated}
 use Rattle.circuit.specs.Expr.{Expr}
@@ -38,6 +38,6 @@ names_noted m none = refl
 names_noted m (more e h a) = ap₂ ◌∷◌ (λ k. record { row = e k; note = h.says k }) (names_noted m a)
 
 pub names_known : (m : List ℕ) {ys : List (Annotated ℕ)} {xs : List (Annotated Expr)} → Alike (Names m) ys xs →
-    All (λ (a : Answer). a.node < count_in m) (map answer_from ys)
+    AllByRecursion (λ (a : Answer). a.node < count_in m) (map answer_from ys)
 names_known m none = tt
 names_known m (more e h a) = (h.counted, names_known m a)

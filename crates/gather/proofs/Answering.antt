@@ -1,6 +1,6 @@
 -- Rows that are gathered are an answer to every query that gives them. Assumes nothing.
 use Rattle.std.proofs.Common.{◌≡◌, ℕ, ◌+◌, ◌*◌, ◌<◌, List, [], ◌∷◌, map, length, sym, refl, ap, ◌∙◌, subst, ap₂, ⊎_elim, arith}
-use Rattle.std.specs.List.{AllByRecursion as All}
+use Rattle.std.specs.List.{AllByRecursion}
 use Rattle.std.proofs.lemmas.List.Sums.{sum_by-cons}
 use Rattle.std.proofs.lemmas.Bool.{cases_Bool, cases_lt}
 use Rattle.tables.specs.Tables.{Row, same_row}
@@ -23,7 +23,7 @@ use Rattle.gather.proofs.Distinct.{some_occurs, total_sum}
 use Rattle.gather.proofs.Positive.{Comes, run_comes}
 
 -- where each row counts more than 0, so do the rows equal to one of them
-sum_comes : {r : Row} {i : ℕ} {xs : List Answer} (v : ℕ → ℕ) (ns : List Node) → All Comes (counted v ns xs) → Listed r i xs → 0 < sum_at r (counting v ns) xs
+sum_comes : {r : Row} {i : ℕ} {xs : List Answer} (v : ℕ → ℕ) (ns : List Node) → AllByRecursion Comes (counted v ns xs) → Listed r i xs → 0 < sum_at r (counting v ns) xs
 sum_comes {r} {i} v ns h (here {rest = rest}) =
     let mine : part r (counting v ns) (record { row = r; node = i }) ≡ counting v ns i = rw ((same_decides r r).1 refl) in
     let some = h.0 in
@@ -73,7 +73,7 @@ module _ (before after : List Node) (rows out : List Answer) (g : Gathered befor
   comes : (r : Row) (i : ℕ) → Listed r i out → normal (provenance ts q r) ≡ [] → ⊥
   comes r i h empty =
       let once : ℕ → ℕ = λ _. 1 in
-      let some : 0 < sum_at r (counting once before) rows = sum_comes once before (subst (All Comes) (sym (gives once)) (run_comes ts q)) (g.only r (i, h)).1 in
+      let some : 0 < sum_at r (counting once before) rows = sum_comes once before (subst (AllByRecursion Comes) (sym (gives once)) (run_comes ts q)) (g.only r (i, h)).1 in
       let zero-way : value Count once (provenance ts q r) ≡ 0 =
       sym (normal_says Count (λ _. Unit {0}) count_lawful once (λ _. tt) (provenance ts q r)) ∙ ap (normal_value Count once) empty ∙ value_none once in
       let same = sum_is r once in

@@ -1,6 +1,6 @@
 -- In rows that rise each row stands once, so its node says what the rows equal to it come to. Assumes nothing.
 use Rattle.std.proofs.Common.{◌≡◌, ℕ, ◌+◌, ◌<◌, false, List, [], ◌∷◌, length, sym, refl, ap, ◌∙◌, subst, ⊎_elim, arith}
-use Rattle.std.specs.List.{AllByRecursion as All}
+use Rattle.std.specs.List.{AllByRecursion}
 use Rattle.std.proofs.ByRecursion.{All-weaker}
 use Rattle.std.proofs.lemmas.List.Sums.{sum_by-cons}
 use Rattle.std.proofs.lemmas.Bool.{cases_Bool}
@@ -20,7 +20,7 @@ rise_rest : {a : Answer} {xs : List Answer} → RowsRise (a ∷ xs) → RowsRise
 rise_rest one = none
 rise_rest (more less rise) = rise
 
-rise_after : {a : Answer} {xs : List Answer} → RowsRise (a ∷ xs) → All (After a.row) xs
+rise_after : {a : Answer} {xs : List Answer} → RowsRise (a ∷ xs) → AllByRecursion (After a.row) xs
 rise_after one = tt
 rise_after (more {a = a} {b = b} {bs = bs} less rise) =
     let first : Before a.row b.row = before_true a.row b.row less in
@@ -30,7 +30,7 @@ rise_after (more {a = a} {b = b} {bs = bs} less rise) =
 pub apart : (r s : Row) → (r ≡ s → ⊥) → same_row r s ≡ false
 apart r s no_same = ⊎_elim (λ t. absurd (no_same (same_true r s t))) (λ f. f) (cases_Bool (same_row r s))
 
-sum_none : (r : Row) (f : ℕ → ℕ) (xs : List Answer) → All (After r) xs → sum_at r f xs ≡ 0
+sum_none : (r : Row) (f : ℕ → ℕ) (xs : List Answer) → AllByRecursion (After r) xs → sum_at r f xs ≡ 0
 sum_none r f [] later = refl
 sum_none r f (x ∷ xs) later =
     let here : part r f x ≡ 0 = rw (apart r x.row (before_apart later.0)) in
@@ -38,7 +38,7 @@ sum_none r f (x ∷ xs) later =
     let all = sum_by-cons (part r f) x xs in
     omega arith
 
-listed_after : {r s : Row} {i : ℕ} {xs : List Answer} → All (After s) xs → Listed r i xs → Before s r
+listed_after : {r s : Row} {i : ℕ} {xs : List Answer} → AllByRecursion (After s) xs → Listed r i xs → Before s r
 listed_after later here = later.0
 listed_after later (there listed) = listed_after later.1 listed
 
@@ -88,12 +88,12 @@ pub total_sum : (r : Row) (v : ℕ → ℕ) (ns : List Node) (xs : List Answer) 
 total_sum r v ns [] = total_none r
 total_sum r v ns (x ∷ xs) = total_more r v ns x xs ∙ ap (λ n. part r (counting v ns) x + n) (total_sum r v ns xs) ∙ sym (sum_by-cons (part r (counting v ns)) x xs)
 
-listed_all : {r : Row} {i : ℕ} {xs : List Answer} (P : ℕ → Type 0) → All (λ (a : Answer). P a.node) xs → Listed r i xs → P i
+listed_all : {r : Row} {i : ℕ} {xs : List Answer} (P : ℕ → Type 0) → AllByRecursion (λ (a : Answer). P a.node) xs → Listed r i xs → P i
 listed_all P all here = all.0
 listed_all P all (there listed) = listed_all P all.1 listed
 
 -- rows that are together and rise are gathered
-pub gathered : (before after : List Node) (xs ys : List Answer) → RowsRise ys → Together before after xs ys → All (λ (a : Answer). a.node < length after) ys → Gathered before after xs ys
+pub gathered : (before after : List Node) (xs ys : List Answer) → RowsRise ys → Together before after xs ys → AllByRecursion (λ (a : Answer). a.node < length after) ys → Gathered before after xs ys
 gathered before after xs ys rise together known = record {
   rise = rise;
   all = λ r h. some_occurs r ys (together.all r (occurs_some h.1));

@@ -1,6 +1,6 @@
 -- Rows brought together: what the rows equal to a row come to stays the same. Assumes nothing.
 use Rattle.std.proofs.Common.{◌≡◌, ℕ, ◌+◌, ◌<◌, List, [], ◌∷◌, ◌++◌, sum_by, sym, refl, ap, ◌∙◌, ap₂, ⊎_elim, arith}
-use Rattle.std.specs.List.{AllByRecursion as All}
+use Rattle.std.specs.List.{AllByRecursion}
 use Rattle.std.proofs.ByRecursion.{All-weaker}
 use Rattle.std.proofs.lemmas.List.Sums.{sum_by-cons, sum_by-append}
 use Rattle.std.proofs.lemmas.Bool.{cases_Bool}
@@ -42,7 +42,7 @@ together_same ns xs ys same = record {
 pub together_then : {before between after : List Node} {xs ys zs : List Answer} → Together before between xs ys → Together between after ys zs → Together before after xs zs
 together_then t u = record { sums = λ r v. t.sums r v ∙ u.sums r v; all = λ r h. u.all r (t.all r h); only = λ r h. t.only r (u.only r h) }
 
-sum_same : (r : Row) (f g : ℕ → ℕ) (xs : List Answer) → All (λ (a : Answer). f a.node ≡ g a.node) xs → sum_at r f xs ≡ sum_at r g xs
+sum_same : (r : Row) (f g : ℕ → ℕ) (xs : List Answer) → AllByRecursion (λ (a : Answer). f a.node ≡ g a.node) xs → sum_at r f xs ≡ sum_at r g xs
 sum_same r f g [] same = refl
 sum_same r f g (x ∷ xs) same =
     sum_by-cons (part r f) x xs ∙ ap₂ ◌+◌ (ap (λ n. pick (same_row r x.row) n 0) same.0) (sum_same r f g xs same.1) ∙ sym (sum_by-cons (part r g) x xs)
@@ -53,11 +53,11 @@ sum_around r f done a left = sum_by-append (part r f) done (a ∷ left) ∙ ap (
 -- two equal neighbours a and b become one row with a node for both
 module _ (ns ms : List Node) (done left : List Answer) (a b : Answer) (q : ℕ) (same : a.row ≡ b.row)
     (joins : (v : ℕ → ℕ) → counting v ms q ≡ counting v ns a.node + counting v ns b.node)
-    (done-stays : All (λ (x : Answer). expr_of ms x.node ≡ expr_of ns x.node) done) (left-stays : All (λ (x : Answer). expr_of ms x.node ≡ expr_of ns x.node) left) where
+    (done-stays : AllByRecursion (λ (x : Answer). expr_of ms x.node ≡ expr_of ns x.node) done) (left-stays : AllByRecursion (λ (x : Answer). expr_of ms x.node ≡ expr_of ns x.node) left) where
   joined_part : (r : Row) (f g : ℕ → ℕ) → g q ≡ f a.node + f b.node → part r g (record { row = a.row; node = q }) ≡ part r f a + part r f b
   joined_part r f g e = rw (← same) (⊎_elim (λ t. rw t e) (λ t. rw t) (cases_Bool (same_row r a.row)))
 
-  stays : (v : ℕ → ℕ) (xs : List Answer) → All (λ (x : Answer). expr_of ms x.node ≡ expr_of ns x.node) xs → All (λ (x : Answer). counting v ns x.node ≡ counting v ms x.node) xs
+  stays : (v : ℕ → ℕ) (xs : List Answer) → AllByRecursion (λ (x : Answer). expr_of ms x.node ≡ expr_of ns x.node) xs → AllByRecursion (λ (x : Answer). counting v ns x.node ≡ counting v ms x.node) xs
   stays v xs h = All-weaker (λ (x : Answer). expr_of ms x.node ≡ expr_of ns x.node) (λ (x : Answer). counting v ns x.node ≡ counting v ms x.node) (λ x e. ap (value Count v) (sym e)) xs h
 
   sums_joined : (r : Row) (v : ℕ → ℕ) → sum_at r (counting v ns) (done ++ a ∷ b ∷ left) ≡ sum_at r (counting v ms) (done ++ record { row = a.row; node = q } ∷ left)

@@ -1,6 +1,6 @@
 -- Equal neighbours brought together, entry by entry. Assumes nothing.
 use Rattle.std.proofs.Common.{◌≡◌, ℕ, ◌+◌, ◌-◌, ◌*◌, ◌<◌, ◌≤◌, true, false, List, [], ◌∷◌, ◌++◌, length, get_or, drop, sym, refl, ap, ◌∙◌, subst, mul-le-mul, arith}
-use Rattle.std.specs.List.{AllByRecursion as All}
+use Rattle.std.specs.List.{AllByRecursion}
 use Rattle.std.proofs.ByRecursion.{All-get_or, All-drop, All-push, All-weaker}
 use Rattle.std.proofs.lemmas.List.{append_assoc, get_or-map, drop_more, drop_all, nil_from_length}
 use Rattle.tables.specs.Tables.{before}
@@ -28,7 +28,7 @@ pub record Underway (rows : List Answer) (w : ℕ) (m0 m hints0 hints out0 out :
   pub at : last.row ≡ get_or (rows_of rows) (i - 1) []
   pub rise : RowsRise (answers_in w n (drop 1 out) ++ last ∷ [])
   pub together : Together (nodes_in m0) (nodes_in m) rows (answers_in w n (drop 1 out) ++ last ∷ drop i rows)
-  pub known : All (λ (a : Answer). a.node < count_in m) (answers_in w n (drop 1 out))
+  pub known : AllByRecursion (λ (a : Answer). a.node < count_in m) (answers_in w n (drop 1 out))
   pub counted : last.node < count_in m
   pub store : Extended m0 m hints0 hints (i - (n + 1))
   pub long : length out ≡ length out0
@@ -113,9 +113,9 @@ module _ (rows : List Answer) (w : ℕ) (m0 hints0 out0 : List ℕ) (order : InO
           let done : List Answer = answers_in w n (drop 1 out) in
           let both : (v : ℕ → ℕ) → value Count v (expr_of (nodes_in m1) q) ≡ value Count v (expr_of (nodes_in m) last.node) + value Count v (expr_of (nodes_in m) y.node) =
           λ v. counts.alike v ∙ value_or v (expr_of (nodes_in m) last.node) (expr_of (nodes_in m) y.node) in
-          let done-stays : All (λ (x : Answer). expr_of (nodes_in m1) x.node ≡ expr_of (nodes_in m) x.node) done =
+          let done-stays : AllByRecursion (λ (x : Answer). expr_of (nodes_in m1) x.node ≡ expr_of (nodes_in m) x.node) done =
           All-weaker (λ (x : Answer). x.node < count_in m) (λ (x : Answer). expr_of (nodes_in m1) x.node ≡ expr_of (nodes_in m) x.node) (λ x l. extends.same x.node l) done g.known in
-          let left-stays : All (λ (x : Answer). expr_of (nodes_in m1) x.node ≡ expr_of (nodes_in m) x.node) (drop (i + 1) rows) =
+          let left-stays : AllByRecursion (λ (x : Answer). expr_of (nodes_in m1) x.node ≡ expr_of (nodes_in m) x.node) (drop (i + 1) rows) =
           All-weaker (λ (x : Answer). x.node < count_in m0) (λ (x : Answer). expr_of (nodes_in m1) x.node ≡ expr_of (nodes_in m) x.node) (λ x l. extends.same x.node (omega arith)) (drop (i + 1) rows)
           (All-drop (λ (x : Answer). x.node < count_in m0) (i + 1) rows ready.known) in
           let before : Together (nodes_in m0) (nodes_in m) rows (done ++ last ∷ y ∷ drop (i + 1) rows) =
@@ -170,7 +170,7 @@ module _ (rows : List Answer) (w : ℕ) (m0 hints0 out0 : List ℕ) (order : InO
         record {
           few = omega arith;
           answer = rw written (gathered (nodes_in m0) (nodes_in m) rows (done ++ last ∷ []) g.rise (subst (λ (xs : List Answer). Together (nodes_in m0) (nodes_in m) rows (done ++ last ∷ xs)) none_left g.together)
-              (subst (λ (k : ℕ). All (λ (a : Answer). a.node < k) (done ++ last ∷ [])) (sym long) (All-push (λ (a : Answer). a.node < count_in m) done last g.known g.counted)));
+              (subst (λ (k : ℕ). AllByRecursion (λ (a : Answer). a.node < k) (done ++ last ∷ [])) (sym long) (All-push (λ (a : Answer). a.node < count_in m) done last g.known g.counted)));
           store = extended_same m0 m hints0 hints (i - (n + 1)) (length rows - (n + 1)) g.store (omega arith);
           behind = behind ∙ further;
         }

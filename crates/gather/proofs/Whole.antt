@@ -1,6 +1,6 @@
 -- From the rows in order to the rows as they stood. Assumes nothing.
 use Rattle.std.proofs.Common.{◌≡◌, ℕ, zero, suc, ◌+◌, ◌-◌, ◌*◌, ◌<◌, ◌≤◌, Bool, eqb, ltb, List, [], ◌∷◌, length, drop, set, Decides, sum_by, sym, refl, ap, ◌∙◌, ⊎_elim, arith}
-use Rattle.std.specs.List.{AllByRecursion as All}
+use Rattle.std.specs.List.{AllByRecursion}
 use Rattle.std.proofs.lemmas.List.{length-take-le, length-drop, get_or-set_same, drop-set-lt}
 use Rattle.std.proofs.lemmas.List.Sums.{sum_by-cons}
 use Rattle.std.proofs.lemmas.Bool.{cases_Bool}
@@ -37,7 +37,7 @@ sum_ones (x ∷ xs) = sum_by-cons (λ _. 1) x xs ∙ (let e = sum_ones xs in ome
 abbrev fails : (Answer → Bool) → Answer → ℕ
 fails t a = pick (t a) 0 1
 
-all_none : (P : Answer → Type 0) (t : Answer → Bool) → ((a : Answer) → Decides (t a) (P a)) → (xs : List Answer) → All P xs → sum_by (fails t) xs ≡ 0
+all_none : (P : Answer → Type 0) (t : Answer → Bool) → ((a : Answer) → Decides (t a) (P a)) → (xs : List Answer) → AllByRecursion P xs → sum_by (fails t) xs ≡ 0
 all_none P t d [] h = refl
 all_none P t d (x ∷ xs) h =
     let here : fails t x ≡ 0 = rw ((d x).1 h.0) in
@@ -45,7 +45,7 @@ all_none P t d (x ∷ xs) h =
     let all = sum_by-cons (fails t) x xs in
     omega arith
 
-none_all : (P : Answer → Type 0) (t : Answer → Bool) → ((a : Answer) → Decides (t a) (P a)) → (xs : List Answer) → sum_by (fails t) xs ≡ 0 → All P xs
+none_all : (P : Answer → Type 0) (t : Answer → Bool) → ((a : Answer) → Decides (t a) (P a)) → (xs : List Answer) → sum_by (fails t) xs ≡ 0 → AllByRecursion P xs
 none_all P t d [] e = tt
 none_all P t d (x ∷ xs) e =
     let all = sum_by-cons (fails t) x xs in
@@ -55,7 +55,7 @@ module _ (xs ys : List Answer) (same : SameSums xs ys) where
   long : length ys ≡ length xs
   long = sym (sum_ones ys) ∙ same (λ _. 1) ∙ sum_ones xs
 
-  all_same : (P : Answer → Type 0) (t : Answer → Bool) → ((a : Answer) → Decides (t a) (P a)) → All P xs → All P ys
+  all_same : (P : Answer → Type 0) (t : Answer → Bool) → ((a : Answer) → Decides (t a) (P a)) → AllByRecursion P xs → AllByRecursion P ys
   all_same P t d h = none_all P t d ys (same (fails t) ∙ all_none P t d xs h)
 
   pub wide_same : (w : ℕ) → Wide w xs → Wide w ys

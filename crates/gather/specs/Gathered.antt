@@ -1,6 +1,6 @@
 -- The rows that a query gives, gathered into its answer: in order, and equal rows together. Assumes nothing: these are definitions.
 use Rattle.std.specs.Prelude.{◌≡◌, ℕ, zero, suc, ◌+◌, ◌-◌, ◌*◌, ◌<◌, ◌≤◌, false, List, [], ◌∷◌, map, length, get_or, take, drop, slice_index, slice_index_or}
-use Rattle.std.specs.List.{AllByRecursion as All}
+use Rattle.std.specs.List.{AllByRecursion}
 use Rattle.tables.specs.Tables.{Row, before}
 use Rattle.query.specs.Semiring.{Count}
 use Rattle.query.specs.Query.{Query, Annotated, run, total}
@@ -66,7 +66,7 @@ pub record Extended (m after hints hints_after : List ℕ) (k : ℕ) : Type 0 wh
 -- the nodes of the rows stand in the store m, and there is room for a node and for a row of the answer for each
 pub record Ready (rows : List Answer) (w : ℕ) (m out : List ℕ) : Type 0 where
   pub proper : Proper m
-  pub known : All (λ (a : Answer). a.node < count_in m) rows
+  pub known : AllByRecursion (λ (a : Answer). a.node < count_in m) rows
   pub nodes : 1 + 3 * (count_in m + length rows) ≤ length m
   pub space : 1 + (1 + w) * length rows ≤ length out
 
@@ -79,7 +79,7 @@ pub record Merged (rows : List Answer) (w : ℕ) (m m_after hints hints_after ou
 
 -- each row has w cells
 abbrev pub Wide : ℕ → List Answer → Type 0
-Wide w xs = All (λ (a : Answer). length a.row ≡ w) xs
+Wide w xs = AllByRecursion (λ (a : Answer). length a.row ≡ w) xs
 
 -- no row stands before the one in front of it
 abbrev pub InOrder : List Answer → Type 0

@@ -1,6 +1,6 @@
 -- A sum that is written way by way, within the room, while its two sides are taken apart. Assumes nothing.
 use Rattle.std.proofs.Common.{◌≡◌, ℕ, ◌+◌, ◌≤◌, true, List, [], ◌∷◌, ◌++◌, reverse, length, Some, None, Ok, Err, Option, sym, refl, ap, ◌∙◌, subst, append_assoc, arith}
-use Rattle.std.specs.List.{AllByRecursion as All}
+use Rattle.std.specs.List.{AllByRecursion}
 use Rattle.std.proofs.ByRecursion.{All-push}
 use Rattle.std.proofs.lemmas.List.{append-nil, reverse-reverse}
 use Rattle.provenance.specs.Polynomial.{Monomial, sum}
@@ -19,7 +19,7 @@ Joining all room out size a b = record {
   right : proper (queue b) ≡ true;
   sized : size ≡ size_of out;
   fits : size ≤ room;
-  small : All Small out;
+  small : AllByRecursion Small out;
   whole : out ++ sum (queue a) (queue b) ≡ all;
 }
 
@@ -45,7 +45,7 @@ module _ (all : List Monomial) (room : ℕ) (out : List Monomial) (size : ℕ) (
 
   pub joining_fails : (c d : List Way) (e : PolynomialError) → Front a b c d (Err e) → Told room all (Err e)
   joining_fails c d Memory n = tt
-  joining_fails c d TooLarge n = λ f. n (all_right Small out (sum (queue a) (queue b)) (subst (All Small) (sym j.whole) f.small))
+  joining_fails c d TooLarge n = λ f. n (all_right Small out (sum (queue a) (queue b)) (subst (AllByRecursion Small) (sym j.whole) f.small))
 
   pub joining_is : sum (queue a) (queue b) ≡ [] → out ≡ all
   joining_is e = sym (append-nil out) ∙ (ap (λ (z : List Monomial). out ++ z) (sym e) ∙ j.whole)

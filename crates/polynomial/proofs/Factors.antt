@@ -1,6 +1,6 @@
 -- A part of a sum, and a factor of a product whose other factor is not empty, is no larger than the whole. Assumes nothing.
 use Rattle.std.proofs.Common.{◌≡◌, ℕ, zero, suc, ◌+◌, ◌*◌, ◌^◌, ◌<◌, ◌≤◌, leb, List, [], ◌∷◌, length, sym, refl, ap, ◌∙◌, subst, arith}
-use Rattle.std.specs.List.{AllByRecursion as All}
+use Rattle.std.specs.List.{AllByRecursion}
 use Rattle.std.proofs.ByRecursion.{All-weaker}
 use Rattle.std.proofs.lemmas.Bool.{le-leb}
 use Rattle.tables.specs.Bool.{pick}
@@ -48,21 +48,21 @@ merged_length (k ∷ ks) xs = omega (arith, put_length k (merged ks xs), merged_
 
 -- none of the monomials has these marks
 abbrev Without : Row → List Monomial → Type 0
-Without w ms = All (λ m. m.marks ≡ w → ⊥) ms
+Without w ms = AllByRecursion (λ m. m.marks ≡ w → ⊥) ms
 
 put_without : (w : Row) (m : Monomial) (xs : List Monomial) → (m.marks ≡ w → ⊥) → Without w xs → Without w (put_monomial m xs)
 unfolding put_monomial
 put_without w m [] h t = (h, tt)
 put_without w m (x ∷ xs) h t = put_cases (Without w) m x xs (λ e. t) (λ p. (h, t)) (λ p. (t.0, put_without w m xs h t.1))
 
-scaled_without : (w : Row) (m : Monomial) (xs : List Monomial) → All (λ x. merged m.marks x.marks ≡ w → ⊥) xs → Without w (scaled m xs)
+scaled_without : (w : Row) (m : Monomial) (xs : List Monomial) → AllByRecursion (λ x. merged m.marks x.marks ≡ w → ⊥) xs → Without w (scaled m xs)
 unfolding scaled
 scaled_without w m [] h = tt
 scaled_without w m (x ∷ xs) h = put_without w (times m x) (scaled m xs) h.0 (scaled_without w m xs h.1)
 
 -- a monomial with marks of its own makes a polynomial larger by itself
 abbrev OneMore : Monomial → List Monomial → List Monomial → Type 0
-OneMore m xs zs = (size_of zs ≡ 2 + length m.marks + size_of xs) × (All Small zs → Small m × All Small xs)
+OneMore m xs zs = (size_of zs ≡ 2 + length m.marks + size_of xs) × (AllByRecursion Small zs → Small m × AllByRecursion Small xs)
 
 put_new : (m : Monomial) (xs : List Monomial) → Without m.marks xs → OneMore m xs (put_monomial m xs)
 unfolding put_monomial
@@ -77,12 +77,12 @@ small_factor zero n limit h l = absurd (omega arith)
 small_factor (suc k) n limit h l = omega arith
 
 scaled_part : (m : Monomial) (xs : List Monomial) → 0 < m.count → Rising xs →
-    (size_of xs ≤ size_of (scaled m xs)) × (All Small (scaled m xs) → All Small xs)
+    (size_of xs ≤ size_of (scaled m xs)) × (AllByRecursion Small (scaled m xs) → AllByRecursion Small xs)
 unfolding scaled
 scaled_part m [] h r = (omega arith, λ a. tt)
 scaled_part m (x ∷ xs) h r =
     let s = scaled_part m xs h r.rest in
-    let apart : All (λ y. merged m.marks y.marks ≡ merged m.marks x.marks → ⊥) xs =
+    let apart : AllByRecursion (λ y. merged m.marks y.marks ≡ merged m.marks x.marks → ⊥) xs =
     All-weaker (After x.marks) (λ y. merged m.marks y.marks ≡ merged m.marks x.marks → ⊥)
     (λ y p e. before_apart p (sym (merged_one m.marks y.marks x.marks e))) xs r.after in
     let n = put_new (times m x) (scaled m xs) (scaled_without (merged m.marks x.marks) m xs apart) in (

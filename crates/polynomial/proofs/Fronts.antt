@@ -2,7 +2,7 @@
 use Rattle.std.proofs.Common.{◌≡◌, ◌+◌, ◌-◌, ◌^◌, ◌<◌, Bool, true, false, ltb, List, [], ◌∷◌, ◌++◌, length, get_or, take, is_some, Some, None, Ok, vec_items, Option, sym, ap, ◌∙◌, subst, arith}
 use Rattle.std.specs.Option.{option_to_list}
 use Rattle.std.proofs.lemmas.Bool.Decides.{nat_tests}
-use Rattle.std.specs.List.{AllByRecursion as All}
+use Rattle.std.specs.List.{AllByRecursion}
 use Rattle.std.proofs.lemmas.List.{reverse-append, take_more, take_all, nil_from_length, length_push}
 use Rattle.std.proofs.lemmas.Bool.{false≢true}
 use Rattle.tables.specs.Tables.{Row, before, same_row}
@@ -113,8 +113,8 @@ module _ (a b c d : List Way) (x y : Way) (e : a ≡ c ++ x ∷ []) (f : b ≡ d
         whole = rw same (both_first t);
       }
 
-  pub take_large : vec_items x.marks ≡ vec_items y.marks → (x.count + y.count < 2 ^ 64 → ⊥) → All Small (sum (queue a) (queue b)) → ⊥
-  take_large t large small = large (subst (All Small) (both_first t) small).0
+  pub take_large : vec_items x.marks ≡ vec_items y.marks → (x.count + y.count < 2 ^ 64 → ⊥) → AllByRecursion Small (sum (queue a) (queue b)) → ⊥
+  take_large t large small = large (subst (AllByRecursion Small) (both_first t) small).0
 
 pub popped : (a c : List Way) (r : Option Way) (x : Way) → a ≡ c ++ option_to_list r → r ≡ Some x → a ≡ c ++ x ∷ []
 popped a c r x e s = e ∙ ap (λ (z : Option Way). c ++ option_to_list z) s

@@ -1,6 +1,6 @@
 -- A product by parts: the product of a polynomial cut in two is the sum of two products, and each fits where the whole does. Assumes nothing.
 use Rattle.std.proofs.Common.{◌≡◌, ℕ, ◌+◌, ◌*◌, ◌<◌, ◌≤◌, true, List, [], ◌∷◌, ◌++◌, Err, sym, refl, subst, add-mul, mul-pos, mul-add, arith}
-use Rattle.std.specs.List.{AllByRecursion as All}
+use Rattle.std.specs.List.{AllByRecursion}
 use Rattle.query.specs.Semiring.{Count}
 use Rattle.query.proofs.Named.{count_lawful}
 use Rattle.provenance.specs.Polynomial.{Monomial, merged, put_monomial, sum, scaled, multiplied}
@@ -36,7 +36,7 @@ sum_turned xs ys r q =
     counted_one (sum xs ys) (sum ys xs) (sum_rising xs ys r q) (sum_rising ys xs q r)
     (λ v. omega (arith, sum_counts v xs ys, sum_counts v ys xs))
 
-all_front : (P : Monomial → Type 0) (xs ys : List Monomial) → All P (xs ++ ys) → All P xs
+all_front : (P : Monomial → Type 0) (xs ys : List Monomial) → AllByRecursion P (xs ++ ys) → AllByRecursion P xs
 all_front P [] ys a = tt
 all_front P (x ∷ xs) ys a = (a.0, all_front P xs ys a.1)
 
@@ -71,12 +71,12 @@ put_grows m (x ∷ xs) =
     let e = put_grows m xs in
     put_cases (λ zs. size_of (x ∷ xs) ≤ size_of zs) m x xs (λ _. omega arith) (λ _. omega arith) (λ _. omega arith)
 
-put_small : (m : Monomial) (xs : List Monomial) → All Small (put_monomial m xs) → All Small xs
+put_small : (m : Monomial) (xs : List Monomial) → AllByRecursion Small (put_monomial m xs) → AllByRecursion Small xs
 unfolding put_monomial
 put_small m [] = λ a. tt
 put_small m (x ∷ xs) =
     let e = put_small m xs in
-    put_cases (λ zs. All Small zs → All Small (x ∷ xs)) m x xs (λ _ a. (omega (arith, a.0), a.1)) (λ _ a. a.1) (λ _ a. (a.0, e a.1))
+    put_cases (λ zs. AllByRecursion Small zs → AllByRecursion Small (x ∷ xs)) m x xs (λ _ a. (omega (arith, a.0), a.1)) (λ _ a. a.1) (λ _ a. (a.0, e a.1))
 
 pub fits_right : (room : ℕ) (xs ys : List Monomial) → FitsIn room (sum xs ys) → FitsIn room ys
 unfolding sum

@@ -1,6 +1,6 @@
 -- The test for a well-formed polynomial, and the relation that it decides. Assumes nothing.
 use Rattle.std.proofs.Common.{◌≡◌, ℕ, ◌≤◌, Bool, true, false, ◌&&◌, ltb, leb, List, [], ◌∷◌, refl}
-use Rattle.std.specs.List.{AllByRecursion as All}
+use Rattle.std.specs.List.{AllByRecursion}
 use Rattle.std.proofs.lemmas.Bool.{false≢true, leb-true, le-leb, ltb-true, lt-ltb}
 use Rattle.tables.specs.Tables.{Row, before}
 use Rattle.tables.proofs.RowOrder.{Before, before_true, before_apart, before_trans, Rank, equal, first, last, rank}
@@ -15,11 +15,11 @@ both_true false c e = absurd (false≢true e)
 true_both : (b c : Bool) → b ≡ true → c ≡ true → b && c ≡ true
 true_both b c e f = rw (e, f)
 
-pub every_all : {A : Type 0} (f : A → Bool) (P : A → Type 0) → ((x : A) → f x ≡ true → P x) → (xs : List A) → every f xs ≡ true → All P xs
+pub every_all : {A : Type 0} (f : A → Bool) (P : A → Type 0) → ((x : A) → f x ≡ true → P x) → (xs : List A) → every f xs ≡ true → AllByRecursion P xs
 every_all f P h [] e = tt
 every_all f P h (x ∷ xs) e = let b = both_true (f x) (every f xs) e in (h x b.0, every_all f P h xs b.1)
 
-all_every : {A : Type 0} (f : A → Bool) (P : A → Type 0) → ((x : A) → P x → f x ≡ true) → (xs : List A) → All P xs → every f xs ≡ true
+all_every : {A : Type 0} (f : A → Bool) (P : A → Type 0) → ((x : A) → P x → f x ≡ true) → (xs : List A) → AllByRecursion P xs → every f xs ≡ true
 all_every f P h [] a = refl
 all_every f P h (x ∷ xs) a = true_both (f x) (every f xs) (h x a.0) (all_every f P h xs a.1)
 

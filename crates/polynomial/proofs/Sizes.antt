@@ -1,6 +1,6 @@
 -- How large polynomials are. Assumes nothing.
 use Rattle.std.proofs.Common.{◌≡◌, ℕ, ◌+◌, ◌≤◌, List, [], ◌∷◌, ◌++◌, length, refl, arith}
-use Rattle.std.specs.List.{AllByRecursion as All}
+use Rattle.std.specs.List.{AllByRecursion}
 use Rattle.provenance.specs.Polynomial.{Monomial}
 use Rattle.polynomial.specs.Rise.{size_of, FitsIn}
 
@@ -16,7 +16,7 @@ pub size_append : (xs ys : List Monomial) → size_of (xs ++ ys) + 1 ≡ size_of
 size_append [] ys = omega arith
 size_append (x ∷ xs) ys = omega (arith, size_append xs ys)
 
-pub all_right : (P : Monomial → Type 0) (xs ys : List Monomial) → All P (xs ++ ys) → All P ys
+pub all_right : (P : Monomial → Type 0) (xs ys : List Monomial) → AllByRecursion P (xs ++ ys) → AllByRecursion P ys
 all_right P [] ys a = a
 all_right P (x ∷ xs) ys a = all_right P xs ys a.1
 

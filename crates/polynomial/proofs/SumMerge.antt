@@ -1,13 +1,13 @@
 -- Two polynomials merged from their fronts are their sum. Assumes nothing.
 use Rattle.std.proofs.Common.{◌≡◌, ◌+◌, List, [], ◌∷◌, sym, refl, subst}
-use Rattle.std.specs.List.{AllByRecursion as All}
+use Rattle.std.specs.List.{AllByRecursion}
 use Rattle.tables.specs.Tables.{Row}
 use Rattle.tables.proofs.RowOrder.{Before, before_apart, before_trans}
 use Rattle.provenance.specs.Polynomial.{Monomial, put_monomial, sum}
 use Rattle.provenance.proofs.PutCases.{put_cases}
 use Rattle.provenance.proofs.Rising.{After, Rising, after_all, put_after}
 
-put_first : (m : Monomial) (xs : List Monomial) → All (After m.marks) xs → put_monomial m xs ≡ m ∷ xs
+put_first : (m : Monomial) (xs : List Monomial) → AllByRecursion (After m.marks) xs → put_monomial m xs ≡ m ∷ xs
 unfolding put_monomial
 put_first m [] h = refl
 put_first m (x ∷ xs) h =
@@ -28,12 +28,12 @@ put_into m x xs e =
     put_cases (λ zs. zs ≡ joined m x ∷ xs) m x xs
     (λ _. refl) (λ p. absurd (before_apart p e)) (λ p. absurd (before_apart p (sym e)))
 
-sum_after : (a : Row) (xs ys : List Monomial) → All (After a) xs → All (After a) ys → All (After a) (sum xs ys)
+sum_after : (a : Row) (xs ys : List Monomial) → AllByRecursion (After a) xs → AllByRecursion (After a) ys → AllByRecursion (After a) (sum xs ys)
 unfolding sum
 sum_after a [] ys h k = k
 sum_after a (x ∷ xs) ys h k = put_after a x (sum xs ys) h.0 (sum_after a xs ys h.1 k)
 
-sum_past : (y : Monomial) (xs ys : List Monomial) → All (After y.marks) xs → sum xs (y ∷ ys) ≡ y ∷ sum xs ys
+sum_past : (y : Monomial) (xs ys : List Monomial) → AllByRecursion (After y.marks) xs → sum xs (y ∷ ys) ≡ y ∷ sum xs ys
 unfolding sum
 sum_past y [] ys h = refl
 sum_past y (x ∷ xs) ys h = rw (sum_past y xs ys h.1) (put_past x y (sum xs ys) h.0)
@@ -57,4 +57,4 @@ pub sum_both : (x y : Monomial) (xs ys : List Monomial) → Rising (x ∷ xs) �
     sum (x ∷ xs) (y ∷ ys) ≡ joined x y ∷ sum xs ys
 unfolding sum
 sum_both x y xs ys r e =
-    rw (sum_past y xs ys (subst (λ (a : Row). All (After a) xs) e r.after)) (put_into x y (sum xs ys) e)
+    rw (sum_past y xs ys (subst (λ (a : Row). AllByRecursion (After a) xs) e r.after)) (put_into x y (sum xs ys) e)

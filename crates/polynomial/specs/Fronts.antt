@@ -1,6 +1,6 @@
 -- Two polynomials that are taken apart way by way. Assumes nothing: these are definitions.
 use Rattle.std.specs.Prelude.{◌≡◌, ◌+◌, ◌<◌, true, List, [], ◌∷◌, reverse, length, Some, None, Ok, Err, Option, Result}
-use Rattle.std.specs.List.{AllByRecursion as All}
+use Rattle.std.specs.List.{AllByRecursion}
 use Rattle.provenance.specs.Polynomial.{Monomial, sum}
 use Rattle.polynomial.specs.declared.error.PolynomialError.{PolynomialError}
 use Rattle.polynomial.specs.declared.error.PolynomialError.TheVariants.{Memory, TooLarge}
@@ -23,4 +23,4 @@ abbrev pub Front : List Way → List Way → List Way → List Way → Result (O
 Front a b c d (Ok None) = sum (queue a) (queue b) ≡ []
 Front a b c d (Ok (Some w)) = Taken a b c d w
 Front a b c d (Err Memory) = Unit {0}
-Front a b c d (Err TooLarge) = All Small (sum (queue a) (queue b)) → ⊥
+Front a b c d (Err TooLarge) = AllByRecursion Small (sum (queue a) (queue b)) → ⊥

@@ -1,6 +1,6 @@
 -- How often each way occurs among monomials, and that this is all that well-formed monomials say. Assumes nothing.
 use Rattle.std.proofs.Common.{◌≡◌, ℕ, ◌+◌, ◌<◌, Bool, List, [], ◌∷◌, sym, refl, ap, ◌∙◌, ap₂, arith}
-use Rattle.std.specs.List.{AllByRecursion as All}
+use Rattle.std.specs.List.{AllByRecursion}
 use Rattle.tables.specs.Bool.{pick}
 use Rattle.tables.specs.Tables.{Row, same_row}
 use Rattle.tables.proofs.Choice.{picked}
@@ -35,7 +35,7 @@ unfolding count_of
 count_here m ms = rw ((same_decides m.marks m.marks).1 refl)
 
 -- a way does not occur among monomials that come after it
-count_after : (a : Row) (ms : List Monomial) → All (After a) ms → count_of a ms ≡ 0
+count_after : (a : Row) (ms : List Monomial) → AllByRecursion (After a) ms → count_of a ms ≡ 0
 unfolding count_of
 count_after a [] h = refl
 count_after a (m ∷ ms) h =
@@ -49,12 +49,12 @@ count_cancel w m ps qs e = grind arith
 module _ (P : List ℕ → Type 0) where
   -- all ways are such ways
   abbrev pub Such : List Monomial → Type 0
-  Such ms = All (λ m. P m.marks) ms
+  Such ms = AllByRecursion (λ m. P m.marks) ms
 
   abbrev pub SameCounts : List Monomial → List Monomial → Type 0
   SameCounts ps qs = (w : List ℕ) → P w → count_of w ps ≡ count_of w qs
 
-  count_clash : (p : Monomial) (ps qs : List Monomial) → P p.marks → 0 < p.count → All (After p.marks) qs → SameCounts (p ∷ ps) qs → ⊥
+  count_clash : (p : Monomial) (ps qs : List Monomial) → P p.marks → 0 < p.count → AllByRecursion (After p.marks) qs → SameCounts (p ∷ ps) qs → ⊥
   count_clash p ps qs such some after same =
       omega (arith, same p.marks such, count_here p ps, count_after p.marks qs after)
 

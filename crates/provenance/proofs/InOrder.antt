@@ -1,6 +1,6 @@
 -- The rows that come about, each once and in order. Assumes nothing.
 use Rattle.std.proofs.Common.{◌≡◌, ◌<◌, Bool, List, [], ◌∷◌, sym, refl, subst, arith}
-use Rattle.std.specs.List.{AllByRecursion as All}
+use Rattle.std.specs.List.{AllByRecursion}
 use Rattle.std.proofs.ByRecursion.{All-weaker}
 use Rattle.tables.specs.Bool.{pick}
 use Rattle.tables.specs.Tables.{Row, before, same_row}
@@ -10,7 +10,7 @@ use Rattle.provenance.specs.Ways.{Time, often}
 -- rows that rise
 abbrev pub Rise : List Row → Type 0
 Rise [] = Unit {0}
-Rise (r ∷ rs) = All (Before r) rs × Rise rs
+Rise (r ∷ rs) = AllByRecursion (Before r) rs × Rise rs
 
 -- a row put in order among others, unless it is there
 put_row : Row → List Row → List Row
@@ -29,16 +29,16 @@ put_row_cases P r x xs into ahead past = go (rank r x)
 
 module _ (P : Row → Type 0) where
   -- what holds of all rows then, and what held of them before
-  put_row_all : (r : Row) (xs : List Row) → P r → All P xs → All P (put_row r xs)
+  put_row_all : (r : Row) (xs : List Row) → P r → AllByRecursion P xs → AllByRecursion P (put_row r xs)
   unfolding put_row
   put_row_all r [] h a = (h, tt)
-  put_row_all r (x ∷ xs) h a = put_row_cases (All P) r x xs (λ _. a) (λ _. (h, a)) (λ _. (a.0, put_row_all r xs h a.1))
+  put_row_all r (x ∷ xs) h a = put_row_cases (AllByRecursion P) r x xs (λ _. a) (λ _. (h, a)) (λ _. (a.0, put_row_all r xs h a.1))
 
-  put_row_back : (r : Row) (xs : List Row) → All P (put_row r xs) → P r × All P xs
+  put_row_back : (r : Row) (xs : List Row) → AllByRecursion P (put_row r xs) → P r × AllByRecursion P xs
   unfolding put_row
   put_row_back r [] = λ a. a
   put_row_back r (x ∷ xs) =
-      put_row_cases (λ zs. All P zs → P r × All P (x ∷ xs)) r x xs
+      put_row_cases (λ zs. AllByRecursion P zs → P r × AllByRecursion P (x ∷ xs)) r x xs
       (λ e a. (subst P (sym e) a.0, a)) (λ _ a. a) (λ _ a. let back = put_row_back r xs a.1 in (back.0, (a.0, back.1)))
 
 put_row_rises : (r : Row) (xs : List Row) → Rise xs → Rise (put_row r xs)
@@ -59,7 +59,7 @@ unfolding in_order
 in_order_rises [] = tt
 in_order_rises (x ∷ xs) = put_row_rises x.row (in_order xs) (in_order_rises xs)
 
-pub in_order_back : (P : Row → Type 0) (xs : List Time) → All P (in_order xs) → All (λ x. P x.row) xs
+pub in_order_back : (P : Row → Type 0) (xs : List Time) → AllByRecursion P (in_order xs) → AllByRecursion (λ x. P x.row) xs
 unfolding in_order
 in_order_back P [] a = tt
 in_order_back P (x ∷ xs) a = let back = put_row_back P x.row (in_order xs) a in (back.0, in_order_back P xs back.1)
@@ -73,7 +73,7 @@ comes_first : (x : Time) (xs : List Time) → 0 < often x.row (x ∷ xs)
 unfolding often
 comes_first x xs = rw ((same_decides x.row x.row).1 refl) (omega arith)
 
-pub in_order_comes : (xs : List Time) → All (λ r. 0 < often r xs) (in_order xs)
+pub in_order_comes : (xs : List Time) → AllByRecursion (λ r. 0 < often r xs) (in_order xs)
 unfolding in_order
 in_order_comes [] = tt
 in_order_comes (x ∷ xs) =

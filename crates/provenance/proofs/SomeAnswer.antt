@@ -1,6 +1,6 @@
 -- Every query has an answer: the rows that come about, in order, with nodes that write out the provenance of each. Assumes nothing.
 use Rattle.std.proofs.Common.{◌≡◌, ℕ, ◌+◌, ◌<◌, Bool, true, false, List, [], ◌∷◌, map, length, sym, refl, ap, ◌∙◌, subst, arith}
-use Rattle.std.specs.List.{AllByRecursion as All}
+use Rattle.std.specs.List.{AllByRecursion}
 use Rattle.std.proofs.ByRecursion.{All-weaker}
 use Rattle.tables.specs.Bool.{pick}
 use Rattle.tables.specs.Tables.{Row, same_row}
@@ -19,12 +19,12 @@ use Rattle.provenance.proofs.Grown.{GoesOn, goes_on_on, grown}
 use Rattle.provenance.proofs.InOrder.{Rise, in_order, in_order_rises, in_order_back, in_order_comes}
 
 -- what holds of each entry of an answer holds of what is listed there
-pub listed_each : (P : Row → ℕ → Type 0) (r : Row) (i : ℕ) {out : List Answer} → Listed r i out → All (λ a. P a.row a.node) out → P r i
+pub listed_each : (P : Row → ℕ → Type 0) (r : Row) (i : ℕ) {out : List Answer} → Listed r i out → AllByRecursion (λ a. P a.row a.node) out → P r i
 listed_each P r i here h = h.0
 listed_each P r i (there listed) h = listed_each P r i listed h.1
 
 -- what holds of the row of each time holds of a row that comes about
-pub often_each : (P : Row → Type 0) (r : Row) (xs : List Time) → All (λ x. P x.row) xs → 0 < often r xs → P r
+pub often_each : (P : Row → Type 0) (r : Row) (xs : List Time) → AllByRecursion (λ x. P x.row) xs → 0 < often r xs → P r
 unfolding often
 often_each P r [] h some = absurd (omega arith)
 often_each P r (x ∷ xs) h some = go (same_row r x.row) refl (often_each P r xs h.1) some
@@ -45,12 +45,12 @@ rows_rise (a ∷ b ∷ out) h = more (true_before h.0.0) (rows_rise (b ∷ out) 
 abbrev Placed : List Answer → Row → Type 0
 Placed out r = (i : ℕ) × Listed r i out
 
-all_placed : (out : List Answer) → All (Placed out) (rows out)
+all_placed : (out : List Answer) → AllByRecursion (Placed out) (rows out)
 all_placed [] = tt
 all_placed (a ∷ out) =
     ((a.node, here), All-weaker (Placed out) (Placed (a ∷ out)) (λ r l. (l.0, there l.1)) (rows out) (all_placed out))
 
-all_rows : (P : Row → Type 0) (out : List Answer) → All P (rows out) → All (λ a. P a.row) out
+all_rows : (P : Row → Type 0) (out : List Answer) → AllByRecursion P (rows out) → AllByRecursion (λ a. P a.row) out
 all_rows P [] h = tt
 all_rows P (a ∷ out) h = (h.0, all_rows P out h.1)
 
@@ -64,7 +64,7 @@ module _ (ts : List (List Row)) (q : Query) where
     goes_on : GoesOn ns nodes
     out : List Answer
     has_rows : rows out ≡ rs
-    right : All (λ a. Right nodes a.row a.node) out
+    right : AllByRecursion (λ a. Right nodes a.row a.node) out
 
   written : (ns : List Node) (rs : List Row) → Written ns rs
   written ns [] = record { nodes = ns; goes_on = record { longer = omega arith; same = λ k h. refl }; out = []; has_rows = refl; right = tt }
@@ -86,8 +86,8 @@ module _ (ts : List (List Row)) (q : Query) where
   answered : (w : Written [] (in_order (times ts q))) → Answered ts q w.nodes w.out
   answered w =
       let rise : Rise (rows w.out) = subst Rise (sym w.has_rows) (in_order_rises (times ts q)) in
-      let come : All Comes (rows w.out) = subst (All Comes) (sym w.has_rows) (in_order_comes (times ts q)) in
-      let placed : All (Placed w.out) (in_order (times ts q)) = subst (All (Placed w.out)) w.has_rows (all_placed w.out) in
+      let come : AllByRecursion Comes (rows w.out) = subst (AllByRecursion Comes) (sym w.has_rows) (in_order_comes (times ts q)) in
+      let placed : AllByRecursion (Placed w.out) (in_order (times ts q)) = subst (AllByRecursion (Placed w.out)) w.has_rows (all_placed w.out) in
       record {
         rise = rows_rise w.out rise;
         right = λ r i l. let h = listed_each (Right w.nodes) r i l w.right in (h.0, ap normal h.1);

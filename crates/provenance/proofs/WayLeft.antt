@@ -1,6 +1,6 @@
 -- A row comes about without some rows exactly if one of its ways uses none of them. Assumes nothing.
 use Rattle.std.proofs.Common.{◌≡◌, ℕ, ◌+◌, ◌<◌, Bool, false, List, [], ◌∷◌, inl, inr, arith}
-use Rattle.std.specs.List.{AllByRecursion as All}
+use Rattle.std.specs.List.{AllByRecursion}
 use Rattle.std.proofs.lemmas.Bool.{cases_lt}
 use Rattle.tables.specs.Bool.{pick}
 use Rattle.query.specs.Semiring.{Count}
@@ -19,12 +19,12 @@ module _ (gone : ℕ → Bool) where
 
   -- a way that uses none of the rows that are gone
   abbrev Unharmed : Monomial → Type 0
-  Unharmed m = All (λ k. gone k ≡ false) m.marks
+  Unharmed m = AllByRecursion (λ k. gone k ≡ false) m.marks
 
   told_mark : (k : ℕ) → Told (gone k ≡ false) (left k)
   told_mark k = grind arith
 
-  told_marks : (ks : List ℕ) → Told (All (λ k. gone k ≡ false) ks) (marks_value Count left ks)
+  told_marks : (ks : List ℕ) → Told (AllByRecursion (λ k. gone k ≡ false) ks) (marks_value Count left ks)
   unfolding marks_value
   told_marks [] = (λ _. omega arith, λ _. tt)
   told_marks (k ∷ ks) =

@@ -1,6 +1,6 @@
 -- What is promised of rewriting a query. Assumes nothing: these are definitions and statements.
 use Rattle.std.specs.Prelude.{◌≡◌, ℕ, ◌+◌, ◌<◌, List, length, slice_index}
-use Rattle.std.specs.List.{AllByRecursion as All}
+use Rattle.std.specs.List.{AllByRecursion}
 use Rattle.tables.specs.Tables.{Row}
 use Rattle.query.specs.Semiring.{Count}
 use Rattle.query.specs.Query.{Test, same, is, below, Query, select, project, product, union, cells, run}
@@ -13,7 +13,7 @@ SameProvenance ts p q = (r : Row) → normal (provenance ts p r) ≡ normal (pro
 
 -- every row that q gives has w cells
 abbrev pub Wide : List (List Row) → Query → ℕ → Type 0
-Wide ts q w = All (λ x. length x.row ≡ w) (run Count (λ k. 1) ts q)
+Wide ts q w = AllByRecursion (λ x. length x.row ≡ w) (run Count (λ k. 1) ts q)
 
 -- a test reads only the first w columns
 abbrev pub Within : ℕ → Test → Type 0
@@ -52,7 +52,7 @@ pub record PushIn (ts : List (List Row)) (p q : Query) (c : Test) (w : ℕ) : Ty
 pub record ProjectRewrites (ts : List (List Row)) (p q : Query) (cs ds : List ℕ) (c : Test) : Type 0 where
   pub test_below : Within (length cs) c → SameProvenance ts (select c (project cs q)) (project cs (select (through cs c) q))
   pub in_union : SameProvenance ts (project cs (union p q)) (union (project cs p) (project cs q))
-  pub composed : All (λ a. a < length cs) ds → SameProvenance ts (project ds (project cs q)) (project (cells ds cs) q)
+  pub composed : AllByRecursion (λ a. a < length cs) ds → SameProvenance ts (project ds (project cs q)) (project (cells ds cs) q)
 
 -- q' is q, with p' in place of p at some of the places where p stands in it
 pub data Replaced (p p' : Query) : Query → Query → Type 0 where

@@ -1,6 +1,6 @@
 -- Tables with rows taken out, and what is promised of the readings that answer for them. Assumes nothing: these are definitions and statements.
 use Rattle.std.specs.Prelude.{◌≡◌, ℕ, suc, ◌-◌, ◌^◌, ◌<◌, ◌≤◌, Bool, true, false, not, ◌&&◌, List, [], ◌∷◌, length, ◌==◌, nat_eq, nat_lt, slice_index}
-use Rattle.std.specs.List.{AllByRecursion as All}
+use Rattle.std.specs.List.{AllByRecursion}
 use Rattle.tables.specs.Bool.{pick}
 use Rattle.tables.specs.Tables.{Row}
 use Rattle.query.specs.Semiring.{Count, Level, Sets, bit}
@@ -38,7 +38,7 @@ ExactlyWithout holds gone ts q r = (holds → ComesAbout (without gone 0 ts) q r
 abbrev pub WayLeft : Type 0
 WayLeft =
     (ts : List (List Row)) (q : Query) (gone : ℕ → Bool) (r : Row) →
-    ExactlyWithout ((m : Monomial) × Among m (normal (provenance ts q r)) × All (λ k. gone k ≡ false) m.marks) gone ts q r
+    ExactlyWithout ((m : Monomial) × Among m (normal (provenance ts q r)) × AllByRecursion (λ k. gone k ≡ false) m.marks) gone ts q r
 
 -- a row is to be had at class l exactly if it comes about from the rows of class l and above alone
 abbrev pub AtLevel : Type 0

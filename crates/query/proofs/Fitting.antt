@@ -1,6 +1,6 @@
 -- Tables that fit have 1 to 4 columns, and rows that are as wide. Assumes nothing.
 use Rattle.std.proofs.Common.{◌≡◌, ℕ, zero, suc, ◌*◌, ◌≤◌, Bool, true, false, leb, List, length, get_or, drop, refl, suc-mul, arith}
-use Rattle.std.specs.List.{AllByRecursion as All}
+use Rattle.std.specs.List.{AllByRecursion}
 use Rattle.std.proofs.lemmas.List.{length-drop, length-take-le}
 use Rattle.std.proofs.lemmas.Bool.Decides.{nat_tests}
 use Rattle.tables.specs.Bool.{pick}
@@ -24,7 +24,7 @@ few_columns xs e = grind (arith, nat_tests)
 all_cells : (xs : List ℕ) → table_fits xs ≡ true → table_size xs ≤ length xs
 all_cells xs e = grind (arith, nat_tests)
 
-rows_in_wide : (n w : ℕ) (xs : List ℕ) → n * w ≤ length xs → All (λ r. length r ≡ w) (rows_in n w xs)
+rows_in_wide : (n w : ℕ) (xs : List ℕ) → n * w ≤ length xs → AllByRecursion (λ r. length r ≡ w) (rows_in n w xs)
 unfolding rows_in
 rows_in_wide zero w xs h = tt
 rows_in_wide (suc n) w xs h =

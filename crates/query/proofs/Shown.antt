@@ -1,6 +1,6 @@
 -- What reading shows of a whole query: where its operators stand, how wide it is, and how wide its rows are. Assumes nothing.
 use Rattle.std.proofs.Common.{◌≡◌, ℕ, zero, suc, ◌+◌, ◌-◌, ◌*◌, ◌/◌, ◌<◌, ◌≤◌, List, [], ◌∷◌, length, get_or, take, drop, Some, None, Option, sym, refl, ap, ◌∙◌, subst, arith}
-use Rattle.std.specs.List.{AllByRecursion as All}
+use Rattle.std.specs.List.{AllByRecursion}
 use Rattle.std.proofs.lemmas.List.{drop-drop, length-drop, length-append, length-take-le}
 use Rattle.std.proofs.ByRecursion.{All-append}
 use Rattle.tables.specs.Tables.{Row}
@@ -89,7 +89,7 @@ abbrev pub Narrow : List ℕ → Type 0
 Narrow ws = (t : ℕ) → t < length ws → get_or ws t 0 ≤ 8
 
 abbrev pub RowsWide : List ℕ → List (List Row) → Type 0
-RowsWide ws ts = (t : ℕ) → t < length ws → All (λ r. length r ≡ get_or ws t 0) (get_or ts t [])
+RowsWide ws ts = (t : ℕ) → t < length ws → AllByRecursion (λ r. length r ≡ get_or ws t 0) (get_or ts t [])
 
 pub stands_narrow : {ws xs : List ℕ} {q : Query} {w : ℕ} {ys : List ℕ} → Narrow ws → StandsIn ws xs q w ys → w ≤ 8
 stands_narrow n (at_scan t _ h) = n t h
@@ -97,7 +97,7 @@ stands_narrow n (at_one c _ e s) = change_narrow c _ _ (stands_narrow n s) e
 stands_narrow n (at_two j _ e s t) = pair_narrow j _ _ _ (stands_narrow n s) e
 
 module _ {V : Type 0} (w : ℕ) where
-  wide_annotated : (v : ℕ → V) (t i : ℕ) (rs : List Row) → All (λ r. length r ≡ w) rs → AllWide w (annotated v t i rs)
+  wide_annotated : (v : ℕ → V) (t i : ℕ) (rs : List Row) → AllByRecursion (λ r. length r ≡ w) rs → AllWide w (annotated v t i rs)
   unfolding annotated
   wide_annotated v t i [] h = tt
   wide_annotated v t i (r ∷ rs) h = (h.0, wide_annotated v t (suc i) rs h.1)

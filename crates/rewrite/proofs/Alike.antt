@@ -1,6 +1,6 @@
 -- What a step makes has the provenance of what it is made of. Assumes nothing.
 use Rattle.std.proofs.Common.{◌≡◌, ℕ, zero, suc, ◌+◌, ◌-◌, ◌<◌, ◌≤◌, Bool, true, false, ◌&&◌, ltb, leb, List, [], ◌∷◌, ◌++◌, length, get_or, take, Some, None, Option, sym, refl, ap, ◌∙◌, subst, arith, ltb-true, leb-true}
-use Rattle.std.specs.List.{AllByRecursion as All}
+use Rattle.std.specs.List.{AllByRecursion}
 use Rattle.std.proofs.lemmas.Bool.{and_parts}
 use Rattle.tables.specs.Bool.{pick}
 use Rattle.tables.specs.Tables.{Row}
@@ -79,7 +79,7 @@ later_earlier w (same a b) e =
 later_earlier w (is a n) e = rw (back w a e)
 later_earlier w (below a n) e = rw (back w a e)
 
-all_columns : (w : ℕ) (cs : List ℕ) → all_below w cs ≡ true → All (λ a. a < w) cs
+all_columns : (w : ℕ) (cs : List ℕ) → all_below w cs ≡ true → AllByRecursion (λ a. a < w) cs
 unfolding all_below
 all_columns w [] e = tt
 all_columns w (x ∷ cs) e = let k = and_parts (ltb x w) (all_below w cs) e in (ltb-true x w k.0, all_columns w cs k.1)

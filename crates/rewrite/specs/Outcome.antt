@@ -1,6 +1,6 @@
 -- What is promised of one step on a query in memory. Assumes nothing: these are definitions.
 use Rattle.std.specs.Prelude.{◌≡◌, ℕ, ◌*◌, ◌<◌, List, [], length, take, drop, Some, None, Option, slice_index, slice_index_or}
-use Rattle.std.specs.List.{AllByRecursion as All}
+use Rattle.std.specs.List.{AllByRecursion}
 use Rattle.tables.specs.Tables.{Row, fit, fits, tables_in, widths_in}
 use Rattle.query.specs.Query.{Query}
 use Rattle.query.specs.Parse.{parsed, parse}
@@ -11,7 +11,7 @@ use Rattle.rewrite.specs.Written.{Fits}
 
 -- the rows of each table have the table's width
 abbrev pub OfWidths : List ℕ → List (List Row) → Type 0
-OfWidths ws ts = (t : ℕ) → t < length ws → All (λ r. length r ≡ slice_index ws t) (slice_index_or ts t [])
+OfWidths ws ts = (t : ℕ) → t < length ws → AllByRecursion (λ r. length r ≡ slice_index ws t) (slice_index_or ts t [])
 
 -- n numbers are written: they are the query that the step makes, as wide and of the same provenance, over these tables and over all of their widths
 pub record Stepped (tables signs : List ℕ) (s : Step) (place : ℕ) (was now : List ℕ) (n : ℕ) : Type 0 where

@@ -1,6 +1,6 @@
 -- Numbers that are written are read back, and nothing else is read as them. Assumes nothing.
 use Rattle.std.proofs.Common.{◌≡◌, ℕ, zero, suc, ◌+◌, ◌*◌, ◌/◌, ◌%◌, ◌^◌, ◌<◌, ◌≤◌, List, [], ◌∷◌, ◌++◌, length, drop, sym, refl, ap, ◌∙◌, ap₂, pow-suc, arith}
-use Rattle.std.specs.List.{AllByRecursion as All}
+use Rattle.std.specs.List.{AllByRecursion}
 use Rattle.std.proofs.lemmas.List.{length-append, length-drop, drop_at, nil_from_length}
 use Rattle.codec.specs.Bytes.{number, numbers}
 use Rattle.stored.specs.Form.{bytes_of, written}
@@ -21,7 +21,7 @@ number_bytes (suc n) x ys h =
     rw e (omega arith)
 
 -- bytes from their number
-bytes_number : (n : ℕ) (bs : List ℕ) → n ≤ length bs → All (λ b. b < 256) bs → bytes_of n (number n bs) ++ drop n bs ≡ bs
+bytes_number : (n : ℕ) (bs : List ℕ) → n ≤ length bs → AllByRecursion (λ b. b < 256) bs → bytes_of n (number n bs) ++ drop n bs ≡ bs
 unfolding bytes_of number
 bytes_number zero bs h a = refl
 bytes_number (suc n) [] h a = absurd (omega arith)
@@ -33,7 +33,7 @@ bytes_number (suc n) (b ∷ bs) h a =
     let e : bytes_of n (number n bs) ++ drop n bs ≡ bs = bytes_number n bs m a.1 in
     rw (l, q) (ap (λ (ys : List ℕ). b ∷ ys) e)
 
-all_drop : (n : ℕ) (bs : List ℕ) → All (λ b. b < 256) bs → All (λ b. b < 256) (drop n bs)
+all_drop : (n : ℕ) (bs : List ℕ) → AllByRecursion (λ b. b < 256) bs → AllByRecursion (λ b. b < 256) (drop n bs)
 all_drop zero bs a = a
 all_drop (suc n) [] a = tt
 all_drop (suc n) (b ∷ bs) a = all_drop n bs a.1
@@ -42,14 +42,14 @@ pub length_written : (xs : List ℕ) → length (written xs) ≡ 8 * length xs
 length_written [] = refl
 length_written (x ∷ xs) = omega (arith, length-append (bytes_of 8 x) (written xs), length_bytes 8 x, length_written xs)
 
-pub numbers_written : (xs : List ℕ) → All (λ x. x < 2 ^ 64) xs → numbers (length xs) (written xs) ≡ xs
+pub numbers_written : (xs : List ℕ) → AllByRecursion (λ x. x < 2 ^ 64) xs → numbers (length xs) (written xs) ≡ xs
 unfolding numbers
 numbers_written [] a = refl
 numbers_written (x ∷ xs) a =
     ap₂ ◌∷◌ (number_bytes 8 x (written xs) a.0)
     (ap (numbers (length xs)) (drop_at (bytes_of 8 x) (written xs) 8 (length_bytes 8 x)) ∙ numbers_written xs a.1)
 
-pub written_numbers : (n : ℕ) (bs : List ℕ) → length bs ≡ 8 * n → All (λ b. b < 256) bs → written (numbers n bs) ≡ bs
+pub written_numbers : (n : ℕ) (bs : List ℕ) → length bs ≡ 8 * n → AllByRecursion (λ b. b < 256) bs → written (numbers n bs) ≡ bs
 unfolding numbers
 written_numbers zero bs e a = sym (nil_from_length bs (omega arith))
 written_numbers (suc n) bs e a =

@@ -1,6 +1,6 @@
 -- Answers that are stored are read back, and nothing else is read as them. Assumes nothing.
 use Rattle.std.proofs.Common.{◌≡◌, ℕ, zero, suc, ◌+◌, ◌*◌, ◌/◌, ◌%◌, ◌^◌, ◌<◌, ◌≤◌, Bool, true, false, ◌&&◌, eqb, leb, List, [], ◌∷◌, ◌++◌, map, length, get_or, take, drop, IfOk, Ok, Err, vec_items, Result, Vec, sym, refl, ap, ◌∙◌, subst, arith, le-leb}
-use Rattle.std.specs.List.{flat_map, AllByRecursion as All}
+use Rattle.std.specs.List.{flat_map, AllByRecursion}
 use Rattle.std.proofs.lemmas.List.{append_assoc, length-append, length-drop, length-take-le, take-append-drop, take_at, drop_at, get_or_append_left, get_or-take, drop-drop, nil_from_length}
 use Rattle.std.proofs.lemmas.Bool.{eq-eqb}
 use Rattle.std.proofs.lemmas.Bool.Decides.{nat_tests}
@@ -48,7 +48,7 @@ module _ (w : ℕ) (ns rs js : List ℕ) (n : length ns ≡ 1 + 3 * get_or ns 0 
   front_answer : answer_in (record { width = w; nodes = length ns; rows = length rs }) (w ∷ (ns ++ (rs ++ js))) ≡ record { width = w; nodes = ns; rows = rs }
   front_answer = rw (front_behind, take_at ns (rs ++ js) (length ns) refl, take_at rs js (length rs) refl)
 
-read_back : (k : ℕ) (hs : List Held) → All Shaped hs → answers_from k (length hs) (flat_map numbers_of hs) ≡ holds hs
+read_back : (k : ℕ) (hs : List Held) → AllByRecursion Shaped hs → answers_from k (length hs) (flat_map numbers_of hs) ≡ holds hs
 unfolding answers_from
 read_back k [] a = refl
 read_back k (h ∷ hs) a =
@@ -68,7 +68,7 @@ read_back k (h ∷ hs) a =
 record Only (xs : List ℕ) (n : ℕ) (hs : List Held) : Type 0 where
   is : xs ≡ flat_map numbers_of hs
   count : length hs ≡ n
-  shaped : All Shaped hs
+  shaped : AllByRecursion Shaped hs
 
 cut_again : (w n r : ℕ) (ys : List ℕ) → w ∷ ((take n ys ++ take r (drop (1 + n) (w ∷ ys))) ++ drop (1 + n + r) (w ∷ ys)) ≡ w ∷ ys
 cut_again w n r ys =
@@ -140,11 +140,11 @@ front_three (a ∷ []) h = absurd (omega arith)
 front_three (a ∷ b ∷ []) h = absurd (omega arith)
 front_three (a ∷ b ∷ c ∷ xs) h = refl
 
-numbers_back : (hs : List Held) → All Shaped hs → read_numbers (file_numbers hs) ≡ holds hs
+numbers_back : (hs : List Held) → AllByRecursion Shaped hs → read_numbers (file_numbers hs) ≡ holds hs
 unfolding read_numbers
 numbers_back hs a = rw (le-leb 3 (length (file_numbers hs)) (omega arith)) (read_back 0 hs a)
 
-numbers_only : (xs : List ℕ) (hs : List Held) → read_numbers xs ≡ holds hs → (xs ≡ file_numbers hs) × All Shaped hs
+numbers_only : (xs : List ℕ) (hs : List Held) → read_numbers xs ≡ holds hs → (xs ≡ file_numbers hs) × AllByRecursion Shaped hs
 unfolding read_numbers
 numbers_only xs hs e =
     let p = tested (leb 3 (length xs) && eqb (get_or xs 0 0) magic) _ NotStored hs e in
@@ -158,11 +158,11 @@ numbers_only xs hs e =
     let t : get_or xs 0 0 ∷ get_or xs 1 0 ∷ get_or xs 2 0 ∷ drop 3 xs ≡ file_numbers hs = rw (m, v, n, j) in
     (sym (front_three xs h) ∙ t, o.shaped)
 
-all_append : (xs ys : List ℕ) → All (λ x. x < 2 ^ 64) xs → All (λ x. x < 2 ^ 64) ys → All (λ x. x < 2 ^ 64) (xs ++ ys)
+all_append : (xs ys : List ℕ) → AllByRecursion (λ x. x < 2 ^ 64) xs → AllByRecursion (λ x. x < 2 ^ 64) ys → AllByRecursion (λ x. x < 2 ^ 64) (xs ++ ys)
 all_append [] ys a b = b
 all_append (x ∷ xs) ys a b = (a.0, all_append xs ys a.1 b)
 
-all_small : (hs : List Held) → All (λ a. All (λ x. x < 2 ^ 64) (numbers_of a)) hs → All (λ x. x < 2 ^ 64) (flat_map numbers_of hs)
+all_small : (hs : List Held) → AllByRecursion (λ a. AllByRecursion (λ x. x < 2 ^ 64) (numbers_of a)) hs → AllByRecursion (λ x. x < 2 ^ 64) (flat_map numbers_of hs)
 all_small [] a = tt
 all_small (h ∷ hs) a = all_append (numbers_of h) (flat_map numbers_of hs) a.0 (all_small hs a.1)
 
@@ -176,7 +176,7 @@ file_back hs s =
     numbers_written (file_numbers hs) (omega arith, (omega arith, (s.few, all_small hs s.small))) in
     rw (eq-eqb (length (file hs) % 8) 0 m, d, w) (numbers_back hs s.shaped)
 
-file_only : (bs : List ℕ) (hs : List Held) → All (λ b. b < 256) bs → read_file bs ≡ holds hs → (bs ≡ file hs) × All Shaped hs
+file_only : (bs : List ℕ) (hs : List Held) → AllByRecursion (λ b. b < 256) bs → read_file bs ≡ holds hs → (bs ≡ file hs) × AllByRecursion Shaped hs
 unfolding read_file
 file_only bs hs a e =
     let p = tested (eqb (length bs % 8) 0) (read_numbers (numbers (length bs / 8) bs)) Uneven hs e in
@@ -190,7 +190,7 @@ file_apart hs gs s t e =
     let z : holds hs ≡ holds gs = sym (file_back hs s) ∙ ap read_file e ∙ file_back gs t in
     cc
 
-all_below : (bs : List ℕ) → ((i : ℕ) → get_or bs i 0 < 256) → All (λ b. b < 256) bs
+all_below : (bs : List ℕ) → ((i : ℕ) → get_or bs i 0 < 256) → AllByRecursion (λ b. b < 256) bs
 all_below [] h = tt
 all_below (b ∷ bs) h = (h 0, all_below bs (λ i. h (suc i)))
 

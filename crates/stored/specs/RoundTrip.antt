@@ -1,6 +1,6 @@
 -- Answers that are stored and read back. Assumes nothing: these are statements.
 use Rattle.std.specs.Prelude.{◌≡◌, ℕ, ◌+◌, ◌*◌, ◌^◌, ◌<◌, ◌≤◌, List, length, slice_index}
-use Rattle.std.specs.List.{AllByRecursion as All}
+use Rattle.std.specs.List.{AllByRecursion}
 use Rattle.stored.specs.Form.{Held, numbers_of, file}
 use Rattle.stored.specs.Reads.{holds, read_file}
 
@@ -13,14 +13,14 @@ pub record Shaped (a : Held) : Type 0 where
 
 -- such answers, of numbers that a machine holds
 pub record Storable (hs : List Held) : Type 0 where
-  pub shaped : All Shaped hs
-  pub small : All (λ a. All (λ x. x < 2 ^ 64) (numbers_of a)) hs
+  pub shaped : AllByRecursion Shaped hs
+  pub small : AllByRecursion (λ a. AllByRecursion (λ x. x < 2 ^ 64) (numbers_of a)) hs
   pub few : length hs < 2 ^ 64
 
 pub record RoundTrip : Type 0 where
   -- what is written is read back
   pub back : (hs : List Held) → Storable hs → read_file (file hs) ≡ holds hs
   -- nothing else is read as the same answers
-  pub only : (bs : List ℕ) (hs : List Held) → All (λ b. b < 256) bs → read_file bs ≡ holds hs → (bs ≡ file hs) × All Shaped hs
+  pub only : (bs : List ℕ) (hs : List Held) → AllByRecursion (λ b. b < 256) bs → read_file bs ≡ holds hs → (bs ≡ file hs) × AllByRecursion Shaped hs
   -- so different answers have different files
   pub apart : (hs gs : List Held) → Storable hs → Storable gs → file hs ≡ file gs → hs ≡ gs
