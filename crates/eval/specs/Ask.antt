@@ -14,7 +14,7 @@ use Rattle.eval.specs.declared.reply.Refusal.{Refusal}
 use Rattle.eval.specs.declared.reply.Reply.{Reply}
 use Rattle.eval.specs.declared.reply.Reply.TheVariants.{Done, Refused}
 
--- `after` holds n rows of w cells, which with the nodes in `nodes-after` are the answer to the query q over the tables in the memory m;
+-- `after` holds n rows of w cells, which with the nodes in `nodes_after` are the answer to the query q over the tables in the memory m;
 -- no two of these nodes are equal, and behind them and behind the rows both lent rows are as they were
 pub record Answers (m : List ℕ) (q : queries.Query) (w : ℕ) (nodes nodes_after out after : List ℕ) (n : ℕ) : Type 0 where
   pub count : slice_index_or after 0 0 ≡ n
