@@ -1,21 +1,20 @@
 -- From the rows of a query to its answer. Assumes nothing.
-use Rattle.std.proofs.Common.{◌≡◌, ℕ, ◌+◌, ◌-◌, ◌*◌, ◌/◌, ◌<◌, ◌≤◌, min, Bool, true, false, List, [], map, length, get_or, drop, is_some, Some, None, MatchBool, sym, refl, ap, ◌∙◌, subst, ap₂, ⊎_elim, add-zero, mul-le-mul, arith}
+use Rattle.std.proofs.Common.{◌≡◌, ℕ, ◌+◌, ◌-◌, ◌*◌, ◌/◌, ◌≤◌, min, Bool, true, false, List, [], map, length, drop, is_some, Some, None, MatchBool, sym, ap, ◌∙◌, subst, ap₂, ⊎_elim, mul-le-mul, arith}
 use native.Mathlib.Nat.{le-min}
 use Rattle.std.proofs.lemmas.List.{drop-drop}
 use Rattle.std.proofs.lemmas.Bool.{cases_lt, false≢true}
 use borrow.Author.Tests.{lt-leb}
 use Rattle.tables.specs.Tables.{fit, fits, tables_in, widths_in}
-use Rattle.query.specs.Query.{Query, run}
+use Rattle.query.specs.Query.{Query}
 use Rattle.query.specs.Parse.{parsed, parse}
 use Rattle.query.specs.Weight.{weight}
 use Rattle.query.proofs.Inverse.{parse_inverse}
 use Rattle.query.proofs.Shown.{stands_in, stands_narrow}
 use Rattle.query.proofs.Fitting.{fit_narrow}
-use Rattle.circuit.specs.Expr.{Plain, mark}
 use Rattle.circuit.specs.Store.{nodes_in}
 use Rattle.circuit.specs.Held.{Sound, node_held, count_in}
 use Rattle.circuit.proofs.NodeCells.{held_past}
-use Rattle.circuit.specs.Hints.{half, Started, Linked, Distinct}
+use Rattle.circuit.specs.Hints.{half, Started}
 use Rattle.circuit.proofs.NodeLists.{length_nodes_in}
 use Rattle.rows.specs.declared.memory.Region.{Region}
 use Rattle.rows.specs.Memory.{held}

@@ -18,19 +18,19 @@ const TINY: usize = 32;
 
 const TINY_HINTS: usize = 132;
 
-const SMALL: usize = 128;
+const LIGHT: usize = 128;
 
-const SMALL_HINTS: usize = 516;
+const LIGHT_HINTS: usize = 516;
 
-const MIDDLE: usize = 512;
+const MIDDLE: usize = 1024;
 
-const MIDDLE_HINTS: usize = 2052;
+const MIDDLE_HINTS: usize = 4100;
 
 const LARGE: usize = 2048;
 
 const LARGE_HINTS: usize = 8196;
 
-const LARGEST_HINTS: usize = 32772;
+const HEAVY_HINTS: usize = 32772;
 
 /// The weight of a query that nothing stands against, or the first refusal that applies.
 fn readied(
@@ -113,14 +113,14 @@ fn answer(
 {
     if weight <= TINY {
         answer_in::<TINY_HINTS>(tables, signs, weight, work, nodes, out)
-    } else if weight <= SMALL {
-        answer_in::<SMALL_HINTS>(tables, signs, weight, work, nodes, out)
+    } else if weight <= LIGHT {
+        answer_in::<LIGHT_HINTS>(tables, signs, weight, work, nodes, out)
     } else if weight <= MIDDLE {
         answer_in::<MIDDLE_HINTS>(tables, signs, weight, work, nodes, out)
     } else if weight <= LARGE {
         answer_in::<LARGE_HINTS>(tables, signs, weight, work, nodes, out)
     } else {
-        answer_in::<LARGEST_HINTS>(tables, signs, weight, work, nodes, out)
+        answer_in::<HEAVY_HINTS>(tables, signs, weight, work, nodes, out)
     }
 }
 

@@ -1,6 +1,6 @@
 use Rattle.std.proofs.Common.{◌≡◌, ◌≤◌, length, Some, ap, ◌∙◌, arith}
 use Rattle.eval.specs.declared.reply.Refusal.TheVariants.{Work}
-use Rattle.eval.proofs.Readying.{Known, known, light, readied, refused_heavy, refused_work, refused_nodes, refused_out}
+use Rattle.eval.proofs.Readying.{known, light, readied, refused_heavy, refused_work, refused_nodes, refused_out}
 use Rattle.eval.proofs.asking.readied.Goals as goal
 
 pub weigh-requires : goal.weigh-requires

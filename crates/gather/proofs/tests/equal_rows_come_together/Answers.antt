@@ -15,7 +15,7 @@ below_five P a b c d e (suc (suc (suc (suc (suc i))))) h = absurd (omega arith)
 -- five marks, and rows that name them
 pub gather-requires : goal.gather-requires
 unfolding rows_apart node_held node_read readable node_in nodes_from
-gather-requires c = record {
+gather-requires b c = record {
   few = omega arith;
   within = (omega arith, omega arith);
   ready = record {
