@@ -1,11 +1,11 @@
 -- What a step makes has the provenance of what it is made of. Assumes nothing.
-use Rattle.std.proofs.Common.{◌≡◌, ℕ, zero, suc, ◌+◌, ◌-◌, ◌<◌, ◌≤◌, Bool, true, false, ◌&&◌, ltb, leb, List, [], ◌∷◌, ◌++◌, length, get_or, take, Some, None, Option, sym, refl, ap, ◌∙◌, subst, arith, ltb-true, leb-true}
+use Rattle.std.proofs.Common.{◌≡◌, ℕ, ◌+◌, ◌-◌, ◌<◌, Bool, true, false, ltb, leb, List, [], ◌∷◌, length, take, Some, None, Option, sym, refl, ap, ◌∙◌, subst, arith, ltb-true, leb-true}
 use Rattle.std.specs.List.{AllByRecursion}
 use Rattle.std.proofs.lemmas.Bool.{and_parts}
 use Rattle.tables.specs.Bool.{pick}
 use Rattle.tables.specs.Tables.{Row}
 use Rattle.query.specs.Semiring.{Count}
-use Rattle.query.specs.Query.{Test, same, is, below, Query, scan, select, project, product, union, cells}
+use Rattle.query.specs.Query.{Test, same, is, below, Query, scan, select, project, product, union}
 use Rattle.query.specs.Operators.{test_of, test_fits, all_below}
 use Rattle.query.specs.declared.operator.Test.{Test as Code-test}
 use Rattle.query.specs.declared.operator.Test.TheVariants.{Same, Is, Below}
@@ -13,7 +13,7 @@ use Rattle.query.specs.declared.operator.Change.TheVariants.{Select, Project}
 use Rattle.query.specs.declared.operator.Pairing.TheVariants.{Product, Union}
 use Rattle.query.proofs.Steps.{differ, select_fits, project_fits}
 use Rattle.query.proofs.Shown.{stands_wide}
-use Rattle.provenance.specs.Rewriting.{SameProvenance, Wide, Within, later, through}
+use Rattle.provenance.specs.Rewriting.{SameProvenance, Wide, Within, later}
 use Rattle.provenance.proofs.Rewrites.{rewriting}
 use Rattle.rewrite.specs.declared.Step.{Step}
 use Rattle.rewrite.specs.declared.Step.TheVariants.{SwapTests, TestIntoLeft, TestIntoRight, TestIntoUnion, UnionOutOfLeft, UnionOutOfRight, RegroupLeft, RegroupRight, SwapUnion, TestBelowProjection, JoinProjections}

@@ -1,9 +1,9 @@
 -- What is known of a written query, by the operator in front; and that it reads as it is written. Assumes nothing.
-use Rattle.std.proofs.Common.{◌≡◌, ℕ, zero, suc, ◌+◌, ◌-◌, ◌*◌, ◌/◌, ◌<◌, ◌≤◌, List, [], ◌∷◌, ◌++◌, length, get_or, take, drop, Some, None, Option, sym, refl, ap, ◌∙◌, subst, ap₂, append_assoc, arith, lt-ltb}
-use Rattle.std.proofs.lemmas.List.{append_cancel_left, get_or_append_left, length-append, length-drop, length-take-le, take-append-drop, take_at, drop_at}
+use Rattle.std.proofs.Common.{◌≡◌, ℕ, zero, suc, ◌+◌, ◌*◌, ◌<◌, ◌≤◌, List, ◌++◌, length, get_or, take, drop, Some, sym, refl, ap, ◌∙◌, subst, ap₂, append_assoc, arith, lt-ltb}
+use Rattle.std.proofs.lemmas.List.{get_or_append_left, length-append, length-drop, length-take-le, take-append-drop, take_at, drop_at}
 use Rattle.query.specs.Query.{Query, scan}
-use Rattle.query.specs.Operators.{operator_of, operator_at, change_width, pair_width, changed, paired}
-use Rattle.query.specs.Parse.{parsed, by_kind, reads}
+use Rattle.query.specs.Operators.{operator_at, change_width, pair_width, changed, paired}
+use Rattle.query.specs.Parse.{parsed, reads}
 use Rattle.query.specs.declared.operator.Operator.{Operator}
 use Rattle.query.specs.declared.operator.Operator.TheVariants.{Scan, One, Two}
 use Rattle.query.specs.declared.operator.Change.{Change}

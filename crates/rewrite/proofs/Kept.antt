@@ -1,8 +1,8 @@
 -- What the steps on projections write. Assumes nothing.
-use Rattle.std.proofs.Common.{◌≡◌, ℕ, ◌-◌, ◌<◌, ◌≤◌, Bool, true, false, ◌&&◌, ltb, leb, List, [], ◌∷◌, ◌++◌, length, get_or, take, drop, Some, None, Option, sym, refl, ap, ◌∙◌, subst, ap₂, append_assoc, arith, ltb-true, lt-ltb, le-leb}
+use Rattle.std.proofs.Common.{◌≡◌, ℕ, ◌-◌, ◌<◌, ◌≤◌, true, ltb, List, [], ◌∷◌, ◌++◌, length, get_or, take, Some, None, Option, sym, refl, ap, ◌∙◌, ap₂, append_assoc, arith, ltb-true, lt-ltb, le-leb}
 use Rattle.std.proofs.lemmas.List.{append-nil, length-take-le, take_at}
 use Rattle.std.proofs.lemmas.Bool.{and_parts}
-use Rattle.query.specs.Query.{Query, select, project, cells}
+use Rattle.query.specs.Query.{select, project, cells}
 use Rattle.query.specs.Operators.{operator_at, test_of, test_fits, all_below, change_width}
 use Rattle.query.specs.declared.operator.Operator.TheVariants.{One}
 use Rattle.query.specs.declared.operator.Change.TheVariants.{Select, Project}
@@ -14,7 +14,7 @@ use Rattle.query.proofs.Keeping.{length_cells}
 use Rattle.provenance.specs.Rewriting.{through}
 use Rattle.rewrite.specs.declared.Step.TheVariants.{TestBelowProjection, JoinProjections}
 use Rattle.rewrite.specs.Rewritten.{turned}
-use Rattle.rewrite.specs.Written.{Sign, Written, changing, Begun, Puts, Turns, keeps}
+use Rattle.rewrite.specs.Written.{Sign, changing, Begun, Puts, Turns, keeps}
 use Rattle.rewrite.proofs.Forms.{one_inside}
 use Rattle.rewrite.proofs.Skipping.{Cannot}
 use Rattle.rewrite.proofs.Turning.{no_project, not_turned, made}

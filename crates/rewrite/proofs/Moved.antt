@@ -1,9 +1,9 @@
 -- What the steps on tests write. Assumes nothing.
-use Rattle.std.proofs.Common.{◌≡◌, ℕ, ◌+◌, ◌-◌, ◌<◌, ◌≤◌, Bool, true, false, ◌&&◌, ltb, leb, List, [], ◌∷◌, ◌++◌, Some, None, Option, sym, refl, ap, ◌∙◌, subst, ap₂, append_assoc, arith}
+use Rattle.std.proofs.Common.{◌≡◌, ℕ, ◌+◌, ◌-◌, true, false, List, [], ◌++◌, Some, None, Option, sym, refl, ap, ◌∙◌, append_assoc, arith}
 use Rattle.std.proofs.lemmas.List.{append-nil}
 use Rattle.std.proofs.lemmas.Bool.Decides.{nat_tests}
 use Rattle.tables.specs.Bool.{pick}
-use Rattle.query.specs.Query.{Query, select, product, union}
+use Rattle.query.specs.Query.{select, product, union}
 use Rattle.query.specs.Operators.{operator_at, test_of, test_fits, change_width}
 use Rattle.query.specs.declared.operator.Operator.TheVariants.{One, Two}
 use Rattle.query.specs.declared.operator.Change.{Change}
@@ -15,7 +15,7 @@ use Rattle.query.proofs.Steps.{differ, select_fits, product_fits, union_fits}
 use Rattle.rewrite.specs.declared.Step.TheVariants.{SwapTests, TestIntoLeft, TestIntoRight, TestIntoUnion}
 use Rattle.rewrite.specs.declared.signs.Inner.{Inner}
 use Rattle.rewrite.specs.Rewritten.{turned, width, within, behind, earlier}
-use Rattle.rewrite.specs.Written.{Sign, Written, changing, pairing, Begun, Puts, Turns, tests, is_product, is_union}
+use Rattle.rewrite.specs.Written.{Sign, changing, pairing, Begun, Puts, Turns, tests, is_product, is_union}
 use Rattle.rewrite.proofs.Forms.{one_inside, two_inside, written_width}
 use Rattle.rewrite.proofs.Skipping.{Cannot}
 use Rattle.rewrite.proofs.Turning.{no_test, no_product, no_union, not_turned, made}

@@ -1,10 +1,9 @@
 -- The query at a place of a written query, and what is written with another in its place. Assumes nothing.
-use Rattle.std.proofs.Common.{◌≡◌, ℕ, zero, suc, ◌+◌, ◌-◌, ◌*◌, ◌<◌, ◌≤◌, Bool, true, false, ltb, List, [], ◌∷◌, ◌++◌, length, get_or, Some, None, Option, sym, refl, ap, ◌∙◌, subst, ap₂, append_assoc, arith, ltb-false, ltb-true, le-ltb, lt-ltb}
+use Rattle.std.proofs.Common.{◌≡◌, ℕ, zero, suc, ◌+◌, ◌-◌, ◌*◌, ◌<◌, ◌≤◌, Bool, true, false, ltb, List, [], ◌++◌, length, Some, None, sym, refl, ap, ◌∙◌, subst, append_assoc, arith, ltb-false, ltb-true, le-ltb, lt-ltb}
 use Rattle.std.proofs.lemmas.List.{append-nil, length-append}
-use Rattle.tables.specs.Bool.{pick}
 use Rattle.query.specs.Query.{Query, scan, select, project, product, union}
 use Rattle.query.specs.Operators.{change_width, pair_width, changed, paired}
-use Rattle.query.specs.declared.operator.Operator.TheVariants.{Scan, One, Two}
+use Rattle.query.specs.declared.operator.Operator.TheVariants.{One, Two}
 use Rattle.query.specs.declared.operator.Change.{Change}
 use Rattle.query.specs.declared.operator.Change.TheVariants.{Select, Project}
 use Rattle.query.specs.declared.operator.Pairing.{Pairing}

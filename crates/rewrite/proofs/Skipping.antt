@@ -1,5 +1,5 @@
 -- Reading off the query at the front of some signs, operator by operator. Assumes nothing.
-use Rattle.std.proofs.Common.{◌≡◌, ℕ, ◌-◌, ◌<◌, ◌≤◌, List, ◌++◌, length, get_or, take, drop, Some, None, Option, sym, refl, ap, ◌∙◌, subst, ap₂, append_assoc, arith}
+use Rattle.std.proofs.Common.{◌≡◌, ℕ, ◌-◌, ◌≤◌, List, ◌++◌, length, get_or, take, Some, None, sym, ap, ◌∙◌, subst, ap₂, append_assoc, arith}
 use Rattle.std.proofs.lemmas.List.{length-append, take_at}
 use Rattle.query.specs.Query.{Query}
 use Rattle.query.specs.Operators.{Begins, operator_at, change_width, pair_width}

@@ -1,10 +1,9 @@
 -- What each step writes is what it makes. Assumes nothing.
-use Rattle.std.proofs.Common.{◌≡◌, ℕ, ◌+◌, ◌*◌, ◌<◌, ◌≤◌, Bool, true, false, List, [], ◌∷◌, ◌++◌, length, get_or, take, drop, Some, None, Option, sym, refl, ap, ◌∙◌, subst, ap₂, append_assoc, arith}
-use Rattle.std.proofs.lemmas.List.{append-nil, length-append}
+use Rattle.std.proofs.Common.{◌≡◌, ℕ, ◌+◌, ◌*◌, true, false, List, ◌++◌, length, Some, None, Option, sym, refl, ap, ◌∙◌, subst, append_assoc, arith}
+use Rattle.std.proofs.lemmas.List.{length-append}
 use Rattle.query.specs.Query as query
 use Rattle.query.specs.Query.{Query}
 use Rattle.query.specs.Operators.{operator_at}
-use Rattle.query.specs.declared.operator.Operator.TheVariants.{Scan, One, Two}
 use Rattle.query.specs.declared.operator.Change.TheVariants.{Select, Project}
 use Rattle.query.specs.declared.operator.Pairing.TheVariants.{Product, Union}
 use Rattle.query.proofs.Steps.{differ}
@@ -12,7 +11,6 @@ use Rattle.rewrite.specs.declared.Step.{Step}
 use Rattle.rewrite.specs.Rewritten.{size, on_select, on_project, on_product, on_union, turned}
 use Rattle.rewrite.specs.Written.{Written, scanned, changing, pairing, tests, keeps, is_product, is_union, Puts, Left, Turned}
 use Rattle.rewrite.proofs.Forms.{operator_front, written_long}
-use Rattle.rewrite.proofs.Skipping.{front_is}
 
 -- where the operator is of another form, so is the query
 module _ {ws : List ℕ} (at after : List ℕ) where

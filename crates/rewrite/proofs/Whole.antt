@@ -10,7 +10,7 @@ use Rattle.query.proofs.Shown.{stands_in}
 use Rattle.query.proofs.Fitting.{fit_wide}
 use Rattle.provenance.proofs.Rewrites.{rewriting}
 use Rattle.rewrite.specs.declared.Step.{Step}
-use Rattle.rewrite.specs.Rewritten.{size, at_place, put_at, put_back, turned, turned_at, rewritten}
+use Rattle.rewrite.specs.Rewritten.{size, put_at, put_back, turned, rewritten}
 use Rattle.rewrite.specs.Written.{Written, Fits, Made, Left, Turned, Turns}
 use Rattle.rewrite.specs.Outcome.{OfWidths, Stepped, NotStepped, Steps}
 use Rattle.rewrite.proofs.Forms.{written_long, written_there, stands_there, reads_there}

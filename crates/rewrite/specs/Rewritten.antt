@@ -2,7 +2,6 @@
 use Rattle.std.specs.Prelude.{ℕ, zero, suc, ◌+◌, ◌-◌, Bool, ◌&&◌, List, length, Some, None, Option, nat_le, nat_lt, slice_index}
 use Rattle.tables.specs.Bool.{pick}
 use Rattle.query.specs.Query.{Test, same, is, below, Query, scan, select, project, product, union, cells}
-use Rattle.query.specs.Operators.{all_below}
 use Rattle.provenance.specs.Rewriting.{through}
 use Rattle.rewrite.specs.declared.Step.{Step}
 use Rattle.rewrite.specs.declared.Step.TheVariants.{SwapTests, TestIntoLeft, TestIntoRight, TestIntoUnion, UnionOutOfLeft, UnionOutOfRight, RegroupLeft, RegroupRight, SwapUnion, TestBelowProjection, JoinProjections}

@@ -1,6 +1,5 @@
-use Rattle.std.proofs.Common.{sym, refl, ◌∙◌, arith}
+use Rattle.std.proofs.Common.{arith}
 use Rattle.tables.specs.Tables.{fit, widths_in}
-use Rattle.query.proofs.Steps.{differ}
 use Rattle.query.proofs.Inverse.{parse_ok, fit_ok}
 use Rattle.rewrite.proofs.Whole.{beyond, whole_step}
 use Rattle.rewrite.proofs.applying.apply.Goals as goal

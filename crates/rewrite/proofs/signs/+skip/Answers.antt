@@ -1,4 +1,4 @@
-use Rattle.std.proofs.Common.{length, sym, ap, arith}
+use Rattle.std.proofs.Common.{length, ap, arith}
 use Rattle.std.proofs.lemmas.List.{length-drop}
 use Rattle.tables.proofs.Places.{length_widths_in}
 use Rattle.rewrite.proofs.Skipping.{begins, nothing_there, scan_cannot, scan_can, one_cannot, one_too_wide, one_can, two_cannot, two_cannot_right, two_too_wide, two_can}

@@ -1,7 +1,7 @@
 use Rattle.std.proofs.Common.{◌≡◌, ◌+◌, ◌≤◌, [], ◌++◌, length, get_or, take, drop, sym, refl, ap, ◌∙◌, ap₂, arith, Bor}
 use Rattle.std.proofs.lemmas.List.{length-append, take_all}
 use Rattle.rewrite.specs.Written.{together}
-use Rattle.rewrite.proofs.Together.{left_more, left_all, taken_more, pasted}
+use Rattle.rewrite.proofs.Together.{left_more, taken_more, pasted}
 use Rattle.rewrite.proofs.write.copy.Goals as goal
 
 pub loop-part-init : goal.loop-part-init
