@@ -6,13 +6,21 @@ use std::test::Fail;
 /// Two tables, ships with their licences and licences with their holders.
 const SHIPS: [u64; 19] = [2, 4, 2, 7, 1, 7, 2, 8, 2, 8, 2, 3, 2, 1, 40, 2, 40, 2, 50];
 
+/// The first table that does not fit, if one does not.
+fn told(memory: &[u64]) -> Result<(), usize> {
+    match fit(memory) {
+        Ok(_) => Ok(()),
+        Err(misfit) => Err(misfit.table),
+    }
+}
+
 #[test]
 fn the_number_of_tables_is_judged_first(rt: HostRuntime) {
-    assert_eq!(rt; fit(&[]), Err(0), "no memory");
-    assert_eq!(rt; fit(&[0]), Err(0), "no table");
-    assert_eq!(rt; fit(&[9, 0, 1]), Err(8), "a ninth table");
+    assert_eq!(rt; told(&[]), Err(0), "no memory");
+    assert_eq!(rt; told(&[0]), Err(0), "no table");
+    assert_eq!(rt; told(&[9, 0, 1]), Err(8), "a ninth table");
     assert_eq!(rt;
-        fit(&[u64::MAX, 0, 1]),
+        told(&[u64::MAX, 0, 1]),
         Err(8),
         "as many tables as can be written"
     );
@@ -20,37 +28,37 @@ fn the_number_of_tables_is_judged_first(rt: HostRuntime) {
 
 #[test]
 fn the_first_faulty_table_is_told(rt: HostRuntime) {
-    assert_eq!(rt; fit(&[1]), Err(0), "the header is missing");
-    assert_eq!(rt; fit(&[2, 0, 1, 1]), Err(1), "the second header is cut off");
-    assert_eq!(rt; fit(&[1, 1, 0]), Err(0), "no column");
-    assert_eq!(rt; fit(&[1, 0, 5]), Err(0), "five columns");
-    assert_eq!(rt; fit(&[1, 257, 1]), Err(0), "257 rows");
+    assert_eq!(rt; told(&[1]), Err(0), "the header is missing");
+    assert_eq!(rt; told(&[2, 0, 1, 1]), Err(1), "the second header is cut off");
+    assert_eq!(rt; told(&[1, 1, 0]), Err(0), "no column");
+    assert_eq!(rt; told(&[1, 0, 5]), Err(0), "five columns");
+    assert_eq!(rt; told(&[1, 257, 1]), Err(0), "257 rows");
     assert_eq!(rt;
-        fit(&[1, u64::MAX, 4, 1]),
+        told(&[1, u64::MAX, 4, 1]),
         Err(0),
         "rows times columns pass 64 bits"
     );
     assert_eq!(rt;
-        fit(&[1, 4, u64::MAX, 1]),
+        told(&[1, 4, u64::MAX, 1]),
         Err(0),
         "columns times rows pass 64 bits"
     );
     assert_eq!(rt;
-        fit(&[2, 0, 1, 2, 2, 1, 2, 3]),
+        told(&[2, 0, 1, 2, 2, 1, 2, 3]),
         Err(1),
         "the last cell is missing"
     );
     assert_eq!(rt;
-        fit(&[2, 0, 1, 2, 2, 1, 2, 3, 4]),
+        told(&[2, 0, 1, 2, 2, 1, 2, 3, 4]),
         Ok(()),
         "all cells are there"
     );
     assert_eq!(rt;
-        fit(&[1, 1, 1, u64::MAX, 99]),
+        told(&[1, 1, 1, u64::MAX, 99]),
         Ok(()),
         "what follows the last table is not looked at"
     );
-    assert_eq!(rt; fit(&SHIPS), Ok(()));
+    assert_eq!(rt; told(&SHIPS), Ok(()));
 }
 
 #[test]
