@@ -1,12 +1,9 @@
 -- What is known of a query that was read, by the operator in front. Assumes nothing.
 use Rattle.std.proofs.Common.{◌≡◌, ℕ, zero, suc, ◌-◌, ◌/◌, ◌%◌, ◌<◌, ◌≤◌, Bool, true, false, eqb, ltb, leb, List, [], ◌∷◌, length, get_or, Some, None, Ok, Option, sym, refl, ap, ◌∙◌, ap₂, ltb-true, eqb-true, leb-true}
 use Rattle.tables.specs.Bool.{pick}
-use Rattle.tables.specs.Tables.{Fit, fits, faulty}
-use Rattle.tables.specs.Read.{fit_answer}
 use Rattle.query.specs.Query.{Query, scan}
 use Rattle.query.specs.Operators.{operator_at, change_width, pair_width, changed, paired}
-use Rattle.query.specs.Parse.{Parsed, parsed, fault, next, wide, meaning, reads, whole, parse}
-use Rattle.query.specs.Agree.{width_of}
+use Rattle.query.specs.Parse.{Parsed, parsed, fault, next, wide, meaning, reads, whole, parse, width_of}
 use Rattle.query.specs.declared.operator.Operator.{Operator}
 use Rattle.query.specs.declared.operator.Operator.TheVariants.{Scan, One, Two}
 use Rattle.query.specs.declared.operator.Change.{Change}
@@ -112,7 +109,7 @@ parse_inverse ws xs q w ys e =
     let c = whole_inverse (length xs / 6) (reads 16 (length xs / 6) ws xs) q w ys b.1 in
     record { read = c.0; all = c.1; short = leb-true (length xs) 96 a.0; even = eqb-true (length xs % 6) 0 b.0 }
 
--- what an Ok says of a query, and of tables
+-- what an Ok says of a query
 pub parse_ok : (ws xs : List ℕ) (w : ℕ) → Ok w ≡ width_of (parse ws xs) → (q : Query) × (parse ws xs ≡ parsed q w []) × (length xs % 6 ≡ 0)
 parse_ok ws xs w e = ok_parsed (parse ws xs) refl
   where
@@ -122,7 +119,3 @@ parse_ok ws xs w e = ok_parsed (parse ws xs) refl
         let k = parse_inverse ws xs q v ys i in
         (q, i ∙ ap₂ (parsed q) (sym same) k.all, k.even)
     ok_parsed (fault p) i = absurd (differ cc)
-
-pub fit_ok : (f : Fit) (u : Unit {0}) → Ok u ≡ fit_answer f → f ≡ fits
-fit_ok fits u e = refl
-fit_ok (faulty t) u e = absurd (differ cc)

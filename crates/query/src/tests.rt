@@ -18,18 +18,14 @@ const UNION: [u64; 6] = [6, 0, 0, 0, 0, 0];
 
 const MAX: u64 = u64::MAX;
 
-/// What is told of a query of at most 17 operators.
+/// What is told of a query: how wide its rows are, or the operator at which it is faulty.
+fn read(signs: &[u64]) -> Result<usize, usize> {
+    parse(&TABLES, signs).map_err(|faulty| faulty.operator)
+}
+
+/// What is told of some operators.
 fn told(operators: &[[u64; 6]]) -> Result<usize, usize> {
-    let mut signs = [0; 102];
-    if operators.len() > 17 {
-        return Err(usize::MAX);
-    }
-    for i in 0..operators.len() {
-        for k in 0..6 {
-            signs[6 * i + k] = operators[i][k];
-        }
-    }
-    parse(&TABLES, &signs[0..6 * operators.len()])
+    read(operators.as_flattened())
 }
 
 #[test]
@@ -44,9 +40,9 @@ fn widths(rt: HostRuntime) {
 
 #[test]
 fn too_few_or_too_many(rt: HostRuntime) {
-    assert_eq!(rt; parse(&TABLES, &[]), Err(0));
-    assert_eq!(rt; parse(&TABLES, &[0, 0, 0, 0, 0]), Err(0));
-    assert_eq!(rt; parse(&TABLES, &[5, 0, 0, 0, 0, 0, 0]), Err(1));
+    assert_eq!(rt; read(&[]), Err(0));
+    assert_eq!(rt; read(&[0, 0, 0, 0, 0]), Err(0));
+    assert_eq!(rt; read(&[5, 0, 0, 0, 0, 0, 0]), Err(1));
     assert_eq!(rt; told(&[FOUR; 17]), Err(16));
     assert_eq!(rt; told(&[FOUR, FOUR]), Err(1));
     assert_eq!(rt; told(&[[1, 0, 0, 0, 0, 0]]), Err(1));
