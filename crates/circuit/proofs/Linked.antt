@@ -1,6 +1,6 @@
 -- A node added to the hints: those that were hinted still are. Assumes nothing.
-use Rattle.std.proofs.Common.{◌≡◌, ℕ, suc, ◌+◌, ◌/◌, ◌<◌, ◌≤◌, ltb, ◌≢◌, List, length, get_or, set, Some, sym, refl, ap, ◌∙◌, subst, ⊎_elim, mod-lt, arith}
-use Rattle.std.proofs.lemmas.List.{length-set, get_or-set_same, get_or-set_other, drop-set-lt}
+use Rattle.std.proofs.Common.{◌≡◌, ℕ, suc, ◌+◌, ◌/◌, ◌<◌, ◌≤◌, ltb, ◌≢◌, List, ◌++◌, drop, replicate, length, get_or, set, Some, sym, refl, ap, ◌∙◌, subst, ⊎_elim, mod-lt, arith}
+use Rattle.std.proofs.lemmas.List.{length-append, length-replicate, length-drop, get_or_append_left, get_or-replicate, length-set, get_or-set_same, get_or-set_other, drop-set-lt}
 use Rattle.std.proofs.lemmas.Bool.{lt-ltb, le-leb, cases_Bool, cases_eq, cases_lt}
 use Rattle.std.proofs.lemmas.Bool.Decides.{nat_tests}
 use Rattle.circuit.specs.declared.Node.{Node}
@@ -154,6 +154,13 @@ linked_empty m hints e low = record {
   heads = λ s h. let z = low s h in omega arith;
   each = λ p h. absurd (omega arith);
 }
+
+-- the hints with their heads made 0
+pub length_cleared : (hints : List ℕ) → length (replicate (half hints) 0 ++ drop (half hints) hints) ≡ length hints
+length_cleared hints = simp (length-append, length-replicate, length-drop) (omega arith)
+
+pub head_cleared : (hints : List ℕ) (s : ℕ) → s < half hints → get_or (replicate (half hints) 0 ++ drop (half hints) hints) s 0 ≡ 0
+head_cleared hints s h = get_or_append_left (replicate (half hints) 0) _ 0 s (rw length-replicate h) ∙ get_or-replicate (half hints) s 0 0 h
 
 pub started : (m hints new : List ℕ) → 0 < length m → length new ≡ length hints → ((s : ℕ) → s < half hints → get_or new s 0 ≡ 0) →
     Started m (set m 0 0) hints new

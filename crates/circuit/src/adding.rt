@@ -5,12 +5,12 @@ ghost use Rattle.circuit.specs.Held.{cells_of, Pushes};
 use crate::Node;
 use crate::reading::has_room;
 
-impl Node {
-    /// A node as the three numbers that a store writes: its kind, and what it names, with 0 for what is not used.
-    pub(crate) fn numbers(self) -> [u64; 3]
-        ensures { result ≡ cells_of self }
+impl From<Node> for [u64; 3] {
+    /// The three numbers that a store writes for a node: its kind, and what it names, with 0 for what is not used.
+    fn from(node: Node) -> [u64; 3]
+        ensures { result ≡ cells_of node }
     {
-        match self {
+        match node {
             Node::Never => [0, 0, 0],
             Node::Always => [1, 0, 0],
             Node::Mark(mark) => [2, mark, 0],
@@ -25,10 +25,8 @@ fn write_node(cells: &mut [u64], node: Node)
     requires { 3 ≤ length cells.old }
     ensures { cells.new ≡ cells_of node ++ drop 3 cells.old }
 {
-    let [kind, a, b] = node.numbers();
-    cells[0] = kind;
-    cells[1] = a;
-    cells[2] = b;
+    let numbers = <[u64; 3]>::from(node);
+    cells[0..3].copy_from_slice(&numbers);
 }
 
 /// Adds a node behind the others, if the memory has room, and says where.

@@ -1,37 +1,54 @@
 //! Finding a node that stands already, or else adding it, so that equal nodes stand once.
-ghost use Rattle.std.specs.Prelude.{◌≡◌, length, MatchBool};
-ghost use Rattle.circuit.specs.Hints.{Started, FoundOrAdded};
+ghost use Rattle.std.specs.Prelude.{◌≡◌, ◌++◌, length, drop, replicate, MatchBool};
+ghost use Rattle.circuit.specs.Hints.{half, Started, FoundOrAdded};
 
 use crate::Node;
 use crate::adding::push;
 use crate::hints::{add_hint, find};
 
-/// Makes the memory an empty store, and the hints those of one, so that equal nodes will stand once.
-/// `false`, with nothing changed, where the memory is empty.
-pub fn start(nodes: &mut [u64], hints: &mut [u64]) -> bool
-    ensures { MatchBool result (Started nodes.old nodes.new hints.old hints.new)
-        ((length nodes.old ≡ 0) × (nodes.new ≡ nodes.old) × (hints.new ≡ hints.old)) }
-{
-    if nodes.is_empty() {
-        return false;
-    }
-    nodes[0] = 0;
-    for slot in 0..hints.len() / 2 {
-        hints[slot] = 0;
-    }
-    true
+/// A store that grows, in lent memory, with hints by which a node of it is found. The hints may be any numbers, and as many as the
+/// caller likes.
+#[derive(Drop)]
+pub struct Circuit<'a> {
+    pub nodes: &'a mut [u64],
+    pub hints: &'a mut [u64],
 }
 
-/// The place of a node: one at which it stands, if its hints lead to one, or else behind the others, if there is room.
-/// The hints may be any numbers, and as many as the caller likes. From `start` on, with at least twice as many hints as
-/// nodes, no two nodes are equal.
-pub fn find_or_push(nodes: &mut [u64], hints: &mut [u64], node: Node) -> Option<u64>
-    ensures { FoundOrAdded nodes.old nodes.new hints.old hints.new node result }
+/// Makes the first half of the hints 0.
+fn clear_heads(hints: &mut [u64])
+    ensures { hints.new ≡ replicate (half hints.old) 0 ++ drop (half hints.old) hints.old }
 {
-    if let Some(place) = find(nodes, hints, node) {
-        return Some(place);
+    let heads = hints.len() / 2;
+    hints[0..heads].fill(0);
+}
+
+impl<'a> Circuit<'a> {
+    /// Makes the memory an empty store, and the hints those of one, so that equal nodes will stand once.
+    /// `false`, with nothing changed, where the memory is empty.
+    pub fn start(&mut self) -> bool
+        ensures { MatchBool result (Started self.old.nodes.now self.new.nodes.now self.old.hints.now self.new.hints.now)
+            ((length self.old.nodes.now ≡ 0) × (self.new.nodes.now ≡ self.old.nodes.now) × (self.new.hints.now ≡ self.old.hints.now)) }
+    {
+        let (nodes, hints) = (&mut *self.nodes, &mut *self.hints);
+        if nodes.is_empty() {
+            return false;
+        }
+        nodes[0] = 0;
+        clear_heads(hints);
+        true
     }
-    let place = push(nodes, node)?;
-    add_hint(hints, node, place);
-    Some(place)
+
+    /// The place of a node: one at which it stands, if its hints lead to one, or else behind the others, if there is room.
+    /// From `start` on, with at least twice as many hints as nodes, no two nodes are equal.
+    pub fn find_or_push(&mut self, node: Node) -> Option<u64>
+        ensures { FoundOrAdded self.old.nodes.now self.new.nodes.now self.old.hints.now self.new.hints.now node result }
+    {
+        let (nodes, hints) = (&mut *self.nodes, &mut *self.hints);
+        if let Some(place) = find(nodes, hints, node) {
+            return Some(place);
+        }
+        let place = push(nodes, node)?;
+        add_hint(hints, node, place);
+        Some(place)
+    }
 }

@@ -4,7 +4,7 @@ ghost use Rattle.std.specs.Prelude.{◌≡◌, ℕ, ◌<◌, Decides, MatchOptio
 ghost use Rattle.circuit.specs.Hints.{slot_of, link_of, hints_with, StandsAt, Hinted};
 
 use crate::Node;
-use crate::reading::node_at;
+use crate::reading::holds;
 
 /// Odd numbers with bits spread evenly, by which the parts of a node are mixed.
 const KIND: u64 = 0x1656_67b1_9e37_79f9;
@@ -19,7 +19,7 @@ fn slot(node: Node, heads: usize) -> usize
     ensures within { result < heads }
     ensures is { result ≡ slot_of node heads }
 {
-    let [kind, a, b] = node.numbers();
+    let [kind, a, b] = <[u64; 3]>::from(node);
     let mixed = kind
         .wrapping_mul(KIND)
         .wrapping_add(a.wrapping_mul(FIRST))
@@ -34,13 +34,7 @@ fn stands_at(nodes: &[u64], node: Node, place: u64) -> bool
     let Some(count) = nodes.first() else {
         return false;
     };
-    if place >= *count {
-        return false;
-    }
-    match node_at(nodes, place) {
-        Some(placed) => placed.node == node,
-        None => false,
-    }
+    place < *count && holds(nodes, node, place)
 }
 
 /// The link behind a place: 0, or one more than an earlier place.

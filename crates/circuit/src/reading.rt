@@ -1,8 +1,9 @@
 //! Reading a store: one node, and whether the whole can be read.
-ghost use Rattle.std.specs.Prelude.{◌≡◌, ◌+◌, ◌*◌, ◌<◌, MatchResult, nat_le, slice_index_or};
+ghost use Rattle.std.specs.Prelude.{◌≡◌, ◌+◌, ◌*◌, ◌<◌, Some, Decides, MatchResult, nat_le, slice_index_or};
 ghost use Rattle.circuit.specs.Store.{nodes_in};
-ghost use Rattle.circuit.specs.Held.{node_read, placed_held, count_in, Sound, Amiss};
+ghost use Rattle.circuit.specs.Held.{node_read, node_held, placed_held, count_in, Sound, Amiss};
 
+use crate::store::{BadNode, Store};
 use crate::{Node, Placed};
 
 /// The node that three numbers are as node `place` of a store, if they can be read as one.
@@ -38,28 +39,41 @@ pub fn node_at(nodes: &[u64], place: u64) -> Option<Placed>
     Some(Placed { place, node })
 }
 
-/// The node at a place of a store.
-pub fn known_node(nodes: &[u64], place: u64) -> Node
-    requires { (Sound nodes.now) × (place < count_in nodes.now) }
-    ensures { result ≡ slice_index_or (nodes_in nodes.now) place Node.Never }
+/// Whether a node is the one at a place of memory.
+pub(crate) fn holds(nodes: &[u64], node: Node, place: u64) -> bool
+    ensures { Decides result (node_held nodes.now place ≡ Some node) }
 {
-    match node_at(nodes, place) {
-        Some(placed) => placed.node,
-        None => unreachable(),
-    }
+    node_at(nodes, place).is_some_and(|placed| placed.node == node)
 }
 
-/// Whether the memory is a store that can be read: else the first place at which a node is amiss.
-pub fn check_store(nodes: &[u64]) -> Result<(), u64>
-    ensures { MatchResult result (λ _. Sound nodes.now) (Amiss nodes.now) }
+/// The store that the memory is, if all its nodes can be read.
+pub fn check_store(nodes: &[u64]) -> Result<Store<'_>, BadNode>
+    ensures { MatchResult result (λ x. (x.nodes.now ≡ nodes.now) × (Sound nodes.now)) (λ e. Amiss nodes.now e.place) }
 {
     let Some(count) = nodes.first() else {
-        return Err(0);
+        return Err(BadNode { place: 0 });
     };
     for place in 0..*count {
         if node_at(nodes, place).is_none() {
-            return Err(place);
+            return Err(BadNode { place });
         }
     }
-    Ok(())
+    Ok(Store { nodes })
+}
+
+impl<'a> Store<'a> {
+    /// How many nodes the store has.
+    pub fn count(self) -> u64
+        ensures { result ≡ count_in self.entry.nodes.now }
+    {
+        self.nodes[0]
+    }
+
+    /// The node at a place of the store.
+    pub fn node(self, place: u64) -> Node
+        requires { place < count_in self.nodes.now }
+        ensures { result ≡ slice_index_or (nodes_in self.entry.nodes.now) place Node.Never }
+    {
+        node_at(self.nodes, place).unwrap().node
+    }
 }

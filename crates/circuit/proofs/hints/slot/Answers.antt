@@ -5,5 +5,5 @@ use Rattle.circuit.proofs.hints.slot.Goals as goal
 pub returns : goal.returns
 returns c = record {
   within = search rules;
-  is = slot_is c.args.node c.args.heads c.numbers.result c.numbers.ensures;
+  is = slot_is c.args.node c.args.heads c.from.result c.from.ensures;
 }

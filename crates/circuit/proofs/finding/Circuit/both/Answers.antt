@@ -1,6 +1,6 @@
 use Rattle.std.proofs.Common.{sym, ◌∙◌}
 use Rattle.circuit.proofs.Joins.{both_simple}
-use Rattle.circuit.proofs.joining.both.Goals as goal
+use Rattle.circuit.proofs.finding.Circuit.both.Goals as goal
 
 pub returns-in-Some : goal.returns-in-Some
 returns-in-Some c = both_simple _ _ _ _ _ (sym c.both_is.ensures ∙ c.in-Some.is)
