@@ -1,6 +1,7 @@
 pub mod Slots
 pub mod Regions
 pub mod Growing
+pub mod Keeping
 pub mod Asking
 pub mod Changing
 pub mod Noting
