@@ -9,4 +9,5 @@ pub mod Scanning
 pub mod Sifting
 pub mod Pairing
 pub mod Turns
+pub mod Walking
 pub mod Storing
