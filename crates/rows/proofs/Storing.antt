@@ -4,13 +4,11 @@ use Rattle.std.specs.Borrow.{MutBor}
 use native.Mathlib.Nat.{min-le_right}
 use Rattle.std.proofs.lemmas.List.{drop-drop, length_push}
 use Rattle.circuit.specs.declared.Node.{Node}
-use Rattle.circuit.specs.declared.Node.TheVariants.{Mark, Both}
-use Rattle.circuit.specs.Expr.{Expr, mark, both}
 use Rattle.circuit.specs.Store.{nodes_in}
 use Rattle.circuit.specs.Held.{NamesEarlier, Pushed, Put, count_in}
 use Rattle.circuit.specs.Hints.{half, Shares}
 use Rattle.circuit.proofs.NodeLists.{length_nodes_in}
-use Rattle.rows.specs.Notes.{GoesOn, Names, room_in, stored_notes}
+use Rattle.rows.specs.Notes.{GoesOn, room_in, stored_notes}
 
 module _ (m m' : List ℕ) (n : Node) (p : ℕ) (put : Put m m' n p) where
   -- where nothing is added nothing changes, and else there is one node more
@@ -51,9 +49,3 @@ put_goes nodes nodes' hints hints' n p put shares α β earlier room =
           let i : count_in m + (count_in m' - count_in m + k) ≡ count_in m' + k = omega arith in
           ap (λ j. drop (1 + 3 * j) m) i ∙ added m m' n p put (⊎_elim (λ e. inl e) (λ h. inr (one_more m m' n p put h)) put.added) k;
     }
-
-pub mark_told : (m m' : List ℕ) (k p : ℕ) → Put m m' (Mark k) p → Names m' p (mark k)
-mark_told m m' k p put = record { counted = put.counted; says = put.stands_for (omega arith) }
-
-pub both_told : (m m' : List ℕ) (a b p : ℕ) → Put m m' (Both a b) p → (d e : Expr) → Names m a d → Names m b e → Names m' p (both d e)
-both_told m m' a b p put d e x y = record { counted = put.counted; says = put.stands_for (x.counted, y.counted) ∙ ap₂ both x.says y.says }
