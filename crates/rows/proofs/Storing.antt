@@ -1,6 +1,7 @@
 -- What the nodes of a store stand for after one is put into it. Assumes nothing.
 use Rattle.std.proofs.Common.{◌≡◌, ℕ, ◌+◌, ◌-◌, ◌*◌, ◌/◌, ◌≤◌, min, ◌⊎◌, List, [], ◌∷◌, length, drop, sym, ap, ◌∙◌, ap₂, inl, inr, ⊎_elim, arith}
-use Rattle.std.specs.Borrow.{MutBor}
+use Rattle.circuit.specs.declared.finding.Circuit.{Circuit}
+use Rattle.circuit.specs.Lent.{SameMemory}
 use native.Mathlib.Nat.{min-le_right}
 use Rattle.std.proofs.lemmas.List.{drop-drop, length_push}
 use Rattle.circuit.specs.declared.Node.{Node}
@@ -24,20 +25,21 @@ module _ (m m' : List ℕ) (n : Node) (p : ℕ) (put : Put m m' n p) where
   one_more : Pushed m m' n p → count_in m' ≡ count_in m + 1
   one_more h = sym (length_nodes_in m') ∙ ap length h.nodes ∙ length_push (nodes_in m) n ∙ ap (λ k. k + 1) (length_nodes_in m)
 
-pub put_goes : (nodes nodes' hints hints' : MutBor (List ℕ)) (n : Node) (p : ℕ) → Put nodes.now nodes'.now n p → Shares nodes.now nodes'.now hints.now hints'.now →
-    nodes'.ghost_name ≡ nodes.ghost_name → hints'.ghost_name ≡ hints.ghost_name → NamesEarlier (count_in nodes.now) n →
-    1 ≤ room_in nodes.now hints.now - count_in nodes.now → GoesOn 1 (stored_notes nodes hints) (stored_notes nodes' hints')
-put_goes nodes nodes' hints hints' n p put shares α β earlier room =
+pub put_goes : (c c' : Circuit) (n : Node) (p : ℕ) → Put c.nodes.now c'.nodes.now n p → Shares c.nodes.now c'.nodes.now c.hints.now c'.hints.now →
+    SameMemory c c' → NamesEarlier (count_in c.nodes.now) n → 1 ≤ room_in c.nodes.now c.hints.now - count_in c.nodes.now → GoesOn 1 (stored_notes c) (stored_notes c')
+put_goes c c' n p put shares memory earlier room =
     let g = put.grown in
-    let m : List ℕ = nodes.now in
-    let m' : List ℕ = nodes'.now in
-    let wide : half hints'.now ≡ half hints.now = ap (λ l. l / 2) shares.same_length in
-    let same : room_in m' hints'.now ≡ room_in m hints.now = ap₂ min (ap (λ l. (l - 1) / 3) g.long) wide in
-    let within : room_in m hints.now ≤ half hints.now = min-le_right ((length m - 1) / 3) (half hints.now) in
+    let m : List ℕ = c.nodes.now in
+    let m' : List ℕ = c'.nodes.now in
+    let hints : List ℕ = c.hints.now in
+    let hints' : List ℕ = c'.hints.now in
+    let wide : half hints' ≡ half hints = ap (λ l. l / 2) shares.same_length in
+    let same : room_in m' hints' ≡ room_in m hints = ap₂ min (ap (λ l. (l - 1) / 3) g.long) wide in
+    let within : room_in m hints ≤ half hints = min-le_right ((length m - 1) / 3) (half hints) in
     record {
       made = count_in m' - count_in m;
       few = omega arith;
-      same = ap₂ (λ a b. a ∷ b ∷ []) α β;
+      same = ap₂ (λ a b. a ∷ b ∷ []) memory.nodes memory.hints;
       room = omega arith;
       stays = λ a e h. record { counted = omega (arith, h.counted); says = g.same a h.counted ∙ h.says };
       ready = λ o. record {

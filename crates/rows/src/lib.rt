@@ -19,4 +19,3 @@ pub use notes::{Annotate, Unannotated};
 pub use pairs::append_pairs;
 pub use scans::append_table;
 pub use sheet::Sheet;
-pub use store::Circuit;

@@ -5,6 +5,4 @@ use Rattle.rows.proofs.store.CircuitAnnotate.mark.Goals as goal
 pub returns-clause-goes : goal.returns-clause-goes
 returns-clause-goes c =
     let told = c.place_of.ensures in
-    let old = c.args.self.now in
-    let new = c.place_of.new.circuit in
-    put_goes old.nodes new.nodes old.hints new.hints _ c.place_of.result told.put told.shares told.nodes told.hints (omega arith) c.requires.room
+    put_goes c.args.self.now c.place_of.new.circuit _ c.place_of.result told.put told.shares told.memory (omega arith) c.requires.room
