@@ -1,5 +1,4 @@
-use Rattle.std.proofs.Common.{◌≡◌, sym, refl, ◌∙◌, arith}
-use Rattle.std.proofs.lemmas.List.{places}
+use Rattle.std.proofs.Common.{◌≡◌, refl, ◌∙◌, arith}
 use Rattle.std.specs.Iterator.Adapters.{enumerate_count}
 use Rattle.rows.proofs.Walking.{walked_none, walked_more}
 use Rattle.gather.proofs.Loading.{load_none, load_more}
