@@ -19,13 +19,15 @@ use Rattle.circuit.proofs.NodeLists.{length_nodes_in}
 use Rattle.rows.specs.declared.memory.Region.{Region}
 use Rattle.rows.specs.Memory.{held}
 use Rattle.rows.specs.Notes.{Can, GoesOn, InOrder, room_in, stored_notes}
-use Rattle.engine.specs.Weighed.{Weighed}
+use Rattle.engine.specs.Weighed.{Weighed as Weighs}
 use Rattle.engine.specs.Weighed as engine
 use Rattle.provenance.specs.Answer.{Answered}
 use Rattle.gather.specs.Gathered.{region_rows, answers_in, Written}
 use Rattle.gather.specs.Gathered as gather
 use Rattle.gather.proofs.Answering.{noted_gives}
 use Rattle.eval.specs.Ask.{Ready, Answers}
+use Rattle.eval.specs.declared.asking.Weighed.{Weighed}
+use Rattle.circuit.specs.declared.finding.Circuit.{Circuit}
 use Rattle.eval.proofs.Regions.{answer_from, rows_both, length_apart, names_noted, names_known}
 
 -- a query that is read has at most eight columns
@@ -43,23 +45,24 @@ started_empty : (m after hints hints_after : List ℕ) → Started m after hints
 started_empty m after hints hints_after s = sym (length_nodes_in after) ∙ ap length s.nodes
 
 -- a store that was made anew has room for a note for each row
-pub started_can : (m after hints hints_after : List ℕ) (n : ℕ) → Started m after hints hints_after → 7 + 6 * n ≤ length m → 4 + 4 * n ≤ length hints →
-    Can n (stored_notes after hints_after)
-started_can m after hints hints_after n s a b =
-    let none = started_empty m after hints hints_after s in
-    let nodes : n ≤ (length after - 1) / 3 = omega (arith, s.long) in
-    let room : n ≤ half hints_after = omega (arith, s.same_length) in
-    let both : n ≤ min ((length after - 1) / 3) (half hints_after) = le-min nodes room in
+pub started_can : (c₀ c₁ : Circuit) (n : ℕ) → Started c₀.nodes.now c₁.nodes.now c₀.hints.now c₁.hints.now → 7 + 6 * n ≤ length c₀.nodes.now → 4 + 4 * n ≤ length c₀.hints.now →
+    Can n (stored_notes c₁)
+started_can c₀ c₁ n s a b =
+    let none = started_empty c₀.nodes.now c₁.nodes.now c₀.hints.now c₁.hints.now s in
+    let nodes : n ≤ (length c₁.nodes.now - 1) / 3 = omega (arith, s.long) in
+    let room : n ≤ half c₁.hints.now = omega (arith, s.same_length) in
+    let both : n ≤ min ((length c₁.nodes.now - 1) / 3) (half c₁.hints.now) = le-min nodes room in
     record {
       ready = record { proper = s.proper; linked = s.linked; distinct = s.distinct };
       room = omega arith;
     }
 
--- a query that is ready has been weighed
-pub ready_weighed : (m xs : List ℕ) (work nodes out n : ℕ) → Ready m xs work nodes out n → Weighed m xs 8192 (Some n)
-ready_weighed m xs work nodes out n r q w e =
+-- a question that is ready has been weighed
+pub ready_weighed : (a : Weighed) (work nodes out : ℕ) → Ready a work nodes out → Weighs a.question 8192 (Some a.weight)
+ready_weighed a work nodes out r q w e =
+    let m = a.question.tables.memory.now in
     let same : r.query ≡ q = cc (r.reads, e) in
-    let weighs : n ≡ weight (tables_in m) q = r.weighs ∙ ap (weight (tables_in m)) same in
+    let weighs : a.weight ≡ weight (tables_in m) q = r.weighs ∙ ap (weight (tables_in m)) same in
     (weighs, omega (arith, r.light))
 
 -- all nodes of a sound store are there
@@ -77,43 +80,43 @@ sound_long m s =
     (cases_lt (length m) (1 + 3 * count_in m)))
     (cases_lt (count_in m) 1)
 
--- the tables in m, signs xs, the nodes and hints before, when the store was made anew, and after the query was run, and the work row then
-module _ (m xs : List ℕ) (n work-size nodes_size out-size : ℕ) (ready : Ready m xs work-size nodes_size out-size n)
-    (m₀ m₁ m₂ h₀ h₁ h₂ : List ℕ) (started : Started m₀ m₁ h₀ h₁) (goes : GoesOn n (stored_notes m₁ h₁) (stored_notes m₂ h₂))
-    (work : List ℕ) (r : Region) (ran : engine.Answers (stored_notes m₂ h₂) m xs n work r)
-    (long₀ : length m₀ ≡ nodes_size) (long₂ : length m₂ ≡ length m₁) (wide₂ : length h₂ ≡ length h₁) (hints : 4 + 4 * n ≤ length h₀) where
-  in_order : InOrder m₂ h₂
+-- a question that is asked, the store before, when it was made anew, and after the query was run, and the work row then
+module _ (a : Weighed) (work-size nodes_size out-size : ℕ) (ready : Ready a work-size nodes_size out-size)
+    (c₀ c₁ c₂ : Circuit) (started : Started c₀.nodes.now c₁.nodes.now c₀.hints.now c₁.hints.now) (goes : GoesOn a.weight (stored_notes c₁) (stored_notes c₂))
+    (work : List ℕ) (r : Region) (ran : engine.Answers (stored_notes c₂) a.question a.weight work r)
+    (long₀ : length c₀.nodes.now ≡ nodes_size) (long₂ : length c₂.nodes.now ≡ length c₁.nodes.now) (wide₂ : length c₂.hints.now ≡ length c₁.hints.now) (hints : 4 + 4 * a.weight ≤ length c₀.hints.now) where
+  in_order : InOrder c₂.nodes.now c₂.hints.now
   in_order = goes.ready (record { proper = started.proper; linked = started.linked; distinct = started.distinct })
 
   -- as many nodes stand there as notes were made
-  made_all : count_in m₂ ≡ goes.made
+  made_all : count_in c₂.nodes.now ≡ goes.made
   made_all =
-      let none = started_empty m₀ m₁ h₀ h₁ started in
-      let same : room_in m₂ h₂ ≡ room_in m₁ h₁ = ap₂ min (ap (λ l. (l - 1) / 3) long₂) (ap (λ l. l / 2) wide₂) in
-      let within : count_in m₂ ≤ room_in m₂ h₂ = le-min (omega (arith, sound_long m₂ in_order.proper.sound)) in_order.linked.room in
+      let none = started_empty c₀.nodes.now c₁.nodes.now c₀.hints.now c₁.hints.now started in
+      let same : room_in c₂.nodes.now c₂.hints.now ≡ room_in c₁.nodes.now c₁.hints.now = ap₂ min (ap (λ l. (l - 1) / 3) long₂) (ap (λ l. l / 2) wide₂) in
+      let within : count_in c₂.nodes.now ≤ room_in c₂.nodes.now c₂.hints.now = le-min (omega (arith, sound_long c₂.nodes.now in_order.proper.sound)) in_order.linked.room in
       omega (arith, goes.room)
 
-  pub few_made : count_in m₂ ≤ n
+  pub few_made : count_in c₂.nodes.now ≤ a.weight
   few_made = omega (arith, made_all, goes.few)
 
-  told : engine.Answered (stored_notes m₂ h₂) m ready.query ready.width n work r
-  told = ran ready.query ready.width ready.reads
+  told : engine.Answered (stored_notes c₂) a.question.tables.memory.now ready.query a.question.width a.weight work r
+  told = ran ready.query a.question.width ready.reads
 
   narrow : r.width ≤ 8
-  narrow = omega (arith, told.width, width_narrow m xs ready.query ready.width ready.fit ready.reads)
+  narrow = omega (arith, told.width, width_narrow a.question.tables.memory.now a.question.signs.now ready.query a.question.width a.question.tables.whole ready.reads)
 
   rows_are : region_rows work r ≡ map answer_from (held work r)
   rows_are = rows_both r.width r.count r.first work narrow
 
-  pub gather_ready : (out : List ℕ) → length out ≡ out-size → gather.Ready (region_rows work r) r.width m₂ out
+  pub gather_ready : (out : List ℕ) → length out ≡ out-size → gather.Ready (region_rows work r) r.width c₂.nodes.now out
   gather_ready out e =
       let rows = length_apart 9 r.width r.count (drop (9 * r.first) work) in
       let few = few_made in
       let within = told.within in
-      let area : (1 + r.width) * length (region_rows work r) ≤ 9 * n = mul-le-mul (omega (arith, narrow)) (omega arith) in
+      let area : (1 + r.width) * length (region_rows work r) ≤ 9 * a.weight = mul-le-mul (omega (arith, narrow)) (omega arith) in
       record {
         proper = in_order.proper;
-        known = rw rows_are (names_known m₂ told.rows);
+        known = rw rows_are (names_known c₂.nodes.now told.rows);
         nodes = omega (arith, started.long, ready.nodes_long);
         space = omega (arith, ready.out_long);
       }
@@ -122,33 +125,33 @@ module _ (m xs : List ℕ) (n work-size nodes_size out-size : ℕ) (ready : Read
   in_work e = (omega (arith, told.within, ready.light), narrow, omega (arith, told.within, ready.work_long))
 
   -- what was gathered is the answer
-  module _ (m₃ h₃ out after : List ℕ) (k : ℕ) (written : Written (region_rows work r) r.width m₂ m₃ h₂ h₃ out after k) where
-    gives : (q : Query) (w : ℕ) → parse (widths_in m) xs ≡ parsed q w [] → gather.Gives (tables_in m) q (nodes_in m₂) (region_rows work r)
-    gives q w e = noted_gives (tables_in m) q (nodes_in m₂) (region_rows work r) (ap (gather.noted (nodes_in m₂)) rows_are ∙ names_noted m₂ (ran q w e).rows)
+  module _ (m₃ h₃ out after : List ℕ) (k : ℕ) (written : Written (region_rows work r) r.width c₂.nodes.now m₃ c₂.hints.now h₃ out after k) where
+    gives : (q : Query) (w : ℕ) → parse (widths_in a.question.tables.memory.now) a.question.signs.now ≡ parsed q w [] → gather.Gives (tables_in a.question.tables.memory.now) q (nodes_in c₂.nodes.now) (region_rows work r)
+    gives q w e = noted_gives (tables_in a.question.tables.memory.now) q (nodes_in c₂.nodes.now) (region_rows work r) (ap (gather.noted (nodes_in c₂.nodes.now)) rows_are ∙ names_noted c₂.nodes.now (ran q w e).rows)
 
-    few_nodes : count_in m₃ ≤ half h₂
+    few_nodes : count_in m₃ ≤ half c₂.hints.now
     few_nodes =
         let rows = length_apart 9 r.width r.count (drop (9 * r.first) work) in
         omega (arith, written.merged.store.few, few_made, told.within, wide₂, started.same_length)
 
     -- the memory behind the nodes, from step to step
-    behind : drop (1 + 3 * count_in m₃) m₃ ≡ drop (1 + 3 * count_in m₃) m₀
+    behind : drop (1 + 3 * count_in m₃) m₃ ≡ drop (1 + 3 * count_in m₃) c₀.nodes.now
     behind =
-        let none = started_empty m₀ m₁ h₀ h₁ started in
+        let none = started_empty c₀.nodes.now c₁.nodes.now c₀.hints.now c₁.hints.now started in
         let more = written.merged.store.more in
-        let left : ℕ = count_in m₃ - count_in m₂ in
-        let at₂ : 1 + 3 * (count_in m₂ + left) ≡ 1 + 3 * count_in m₃ = omega arith in
-        let at₁ : 1 + 3 * (count_in m₁ + (goes.made + left)) ≡ 1 + 3 * count_in m₃ = omega (arith, made_all) in
+        let left : ℕ = count_in m₃ - count_in c₂.nodes.now in
+        let at₂ : 1 + 3 * (count_in c₂.nodes.now + left) ≡ 1 + 3 * count_in m₃ = omega arith in
+        let at₁ : 1 + 3 * (count_in c₁.nodes.now + (goes.made + left)) ≡ 1 + 3 * count_in m₃ = omega (arith, made_all) in
         written.merged.store.behind
-        ∙ ap (λ j. drop j m₂) (sym at₂) ∙ sym (goes.behind left) ∙ ap (λ j. drop j m₁) at₁
-        ∙ sym (drop-drop (3 * count_in m₃) 1 m₁) ∙ ap (drop (3 * count_in m₃)) started.behind ∙ drop-drop (3 * count_in m₃) 1 m₀
+        ∙ ap (λ j. drop j c₂.nodes.now) (sym at₂) ∙ sym (goes.behind left) ∙ ap (λ j. drop j c₁.nodes.now) at₁
+        ∙ sym (drop-drop (3 * count_in m₃) 1 c₁.nodes.now) ∙ ap (drop (3 * count_in m₃)) started.behind ∙ drop-drop (3 * count_in m₃) 1 c₀.nodes.now
 
-    pub answered : length after ≡ length out → (q : Query) (w : ℕ) → parse (widths_in m) xs ≡ parsed q w [] → Answers m q w m₀ m₃ out after k
+    pub answered : length after ≡ length out → (q : Query) (w : ℕ) → parse (widths_in a.question.tables.memory.now) a.question.signs.now ≡ parsed q w [] → Answers a.question.tables.memory.now q w c₀.nodes.now m₃ out after k
     answered long q w e =
         let width = (ran q w e).width in
         record {
           count = written.count;
-          answer = subst (λ (v : ℕ). Answered (tables_in m) q (nodes_in m₃) (answers_in v k (drop 1 after))) width (written.answers (tables_in m) q (gives q w e));
+          answer = subst (λ (v : ℕ). Answered (tables_in a.question.tables.memory.now) q (nodes_in m₃) (answers_in v k (drop 1 after))) width (written.answers (tables_in a.question.tables.memory.now) q (gives q w e));
           proper = written.merged.store.proper;
           distinct = written.merged.store.distinct in_order.linked few_nodes in_order.distinct;
           nodes_long = written.merged.store.long ∙ long₂ ∙ started.long;
@@ -156,3 +159,8 @@ module _ (m xs : List ℕ) (n work-size nodes_size out-size : ℕ) (ready : Read
           out_long = long;
           out_behind = subst (λ (v : ℕ). drop (1 + (1 + v) * k) after ≡ drop (1 + (1 + v) * k) out) width written.merged.behind;
         }
+
+-- the answer is in whatever is the memory of the nodes
+pub answers_same : (m : List ℕ) (q : Query) (w : ℕ) (nodes after out out_after : List ℕ) (k : ℕ) → Answers m q w nodes after out out_after k →
+    (after' : List ℕ) → after' ≡ after → Answers m q w nodes after' out out_after k
+answers_same m q w nodes after out out_after k a after' e = rw e a

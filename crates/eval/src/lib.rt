@@ -6,4 +6,4 @@ mod refusals;
 mod reply;
 
 pub use asking::ask;
-pub use reply::{Refusal, Reply};
+pub use reply::Refusal;

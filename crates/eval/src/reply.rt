@@ -1,4 +1,9 @@
-//! What is replied to a query.
+//! Why a query is turned away.
+ghost use Rattle.std.specs.Prelude.{◌≡◌};
+ghost use Rattle.eval.specs.declared.reply.Refusal.TheVariants.{Tables, Query};
+
+use query::Faulty;
+use tables::Misfit;
 
 /// Why a query is turned away, with what tells the place.
 #[derive(Clone, Copy, PartialEq, Eq, Debug)]
@@ -17,9 +22,18 @@ pub enum Refusal {
     Out(usize),
 }
 
-/// The reply to a query: answered, with how many rows; or turned away.
-#[derive(Clone, Copy, PartialEq, Eq, Debug)]
-pub enum Reply {
-    Done(usize),
-    Refused(Refusal),
+impl From<Misfit> for Refusal {
+    ghost from_gives = { λ e r. r ≡ Tables e.table };
+
+    fn from(misfit: Misfit) -> Refusal {
+        Refusal::Tables(misfit.table)
+    }
+}
+
+impl From<Faulty> for Refusal {
+    ghost from_gives = { λ e r. r ≡ Query e.operator };
+
+    fn from(faulty: Faulty) -> Refusal {
+        Refusal::Query(faulty.operator)
+    }
 }

@@ -1,6 +1,7 @@
 -- What the nodes of a store stand for after one is put into it. Assumes nothing.
-use Rattle.std.proofs.Common.{◌≡◌, ℕ, ◌+◌, ◌-◌, ◌*◌, ◌/◌, ◌≤◌, min, ◌⊎◌, List, [], ◌∷◌, length, drop, sym, ap, ◌∙◌, ap₂, inl, inr, ⊎_elim, arith}
+use Rattle.std.proofs.Common.{get_or, ◌≡◌, ℕ, ◌+◌, ◌-◌, ◌*◌, ◌/◌, ◌≤◌, min, ◌⊎◌, List, [], ◌∷◌, length, drop, sym, ap, ◌∙◌, ap₂, inl, inr, ⊎_elim, arith}
 use Rattle.circuit.specs.declared.finding.Circuit.{Circuit}
+use Rattle.std.specs.Borrow.{GName}
 use Rattle.circuit.specs.Lent.{SameMemory}
 use native.Mathlib.Nat.{min-le_right}
 use Rattle.std.proofs.lemmas.List.{drop-drop, length_push}
@@ -39,7 +40,7 @@ put_goes c c' n p put shares memory earlier room =
     record {
       made = count_in m' - count_in m;
       few = omega arith;
-      same = ap₂ (λ a b. a ∷ b ∷ []) memory.nodes memory.hints;
+      same = ap₂ (λ a b. a ∷ b ∷ []) (ap₂ (λ a b. (a, b)) memory.nodes g.long) (ap₂ (λ a b. (a, b)) memory.hints shares.same_length);
       room = omega arith;
       stays = λ a e h. record { counted = omega (arith, h.counted); says = g.same a h.counted ∙ h.says };
       ready = λ o. record {
@@ -51,3 +52,12 @@ put_goes c c' n p put shares memory earlier room =
           let i : count_in m + (count_in m' - count_in m + k) ≡ count_in m' + k = omega arith in
           ap (λ j. drop (1 + 3 * j) m) i ∙ added m m' n p put (⊎_elim (λ e. inl e) (λ h. inr (one_more m m' n p put h)) put.added) k;
     }
+
+-- notes that go on stay in the memory in which they were
+pub kept_memory : (c c' : Circuit) (n : ℕ) → GoesOn n (stored_notes c) (stored_notes c') → SameMemory c c' × (length c'.nodes.now ≡ length c.nodes.now) × (length c'.hints.now ≡ length c.hints.now)
+kept_memory c c' n g =
+    let d : GName × ℕ = (c.nodes.ghost_name, 0) in (
+      record { nodes = ap (λ l. (get_or l 0 d).0) g.same; hints = ap (λ l. (get_or l 1 d).0) g.same },
+      ap (λ l. (get_or l 0 d).1) g.same,
+      ap (λ l. (get_or l 1 d).1) g.same,
+    )

@@ -3,11 +3,12 @@ use Rattle.eval.proofs.asking.ask.Goals as goal
 
 pub returns : goal.returns
 returns c =
-    let r = c.in-Ok.ensures in
-    record {
-      none = ready_none _ _ _ _ _ c.in-Ok.weight r;
+    let a = c.in_ok-asked.ensures.0 in
+    let r = c.in_ok-asked.ensures.1 in
+    rw (← a.memory, ← a.signs) (record {
+      none = ready_none c.in_ok-asked.asked _ _ _ r;
       query = r.query;
-      width = r.width;
+      width = c.in_ok-asked.asked.question.width;
       reads = r.reads;
-      answers = c.answer.ensures r.query r.width r.reads;
-    }
+      answers = c.answer.ensures r.query c.in_ok-asked.asked.question.width r.reads;
+    })
