@@ -1,5 +1,5 @@
 //! The worked example, the empty answer, and each refusal at its edge.
-use eval::{Refusal, Reply, ask};
+use eval::{Refusal, ask};
 use std::alloc::{AllocError, Global};
 use std::test::Fail;
 
@@ -29,7 +29,12 @@ fn untouched(memory: &[u64]) -> bool {
 }
 
 /// What is replied over the ships with lent rows of three lengths, and whether the nodes and the answer are as they were.
-fn told(heap: Global, work: usize, nodes: usize, out: usize) -> Result<(Reply, bool), AllocError> {
+fn told(
+    heap: Global,
+    work: usize,
+    nodes: usize,
+    out: usize,
+) -> Result<(Result<usize, Refusal>, bool), AllocError> {
     let mut work = vec![in heap; 7; work]?;
     let mut nodes = vec![in heap; 7; nodes]?;
     let mut out = vec![in heap; 7; out]?;
@@ -61,7 +66,7 @@ fn many_rows(heap: Global) -> Result<Vec<u64>, AllocError> {
 }
 
 /// What is replied to the heavy query, with the last test for a number, and as much memory as the heaviest query needs.
-fn weighed(heap: Global, number: u64) -> Result<Reply, AllocError> {
+fn weighed(heap: Global, number: u64) -> Result<Result<usize, Refusal>, AllocError> {
     let tables = many_rows(heap)?;
     let mut signs = HEAVY;
     signs[2] = number;
@@ -82,10 +87,7 @@ fn ships_and_holders(rt: HostRuntime) {
     let mut work = [0; 297];
     let mut nodes = [9; 205];
     let mut out = [9; 298];
-    assert_eq!(rt;
-        ask(&SHIPS, &HELD, &mut work, &mut nodes, &mut out),
-        Reply::Done(4)
-    );
+    assert_eq!(rt; ask(&SHIPS, &HELD, &mut work, &mut nodes, &mut out), Ok(4));
     assert_eq!(rt; [out[0], out[2], out[3], out[5], out[6]], [4, 7, 40, 7, 50]);
     assert_eq!(rt;
         [out[8], out[9], out[11], out[12], out[13]],
@@ -101,38 +103,26 @@ fn ships_and_holders(rt: HostRuntime) {
 fn no_row_passes(rt: HostRuntime) {
     let (mut work, mut nodes, mut out) = ([0; 36], [9; 31], [9; 37]);
     let signs = [2, 0, 9, 0, 0, 0, 0, 0, 0, 0, 0, 0];
-    assert_eq!(rt;
-        ask(&SHIPS, &signs, &mut work, &mut nodes, &mut out),
-        Reply::Done(0)
-    );
+    assert_eq!(rt; ask(&SHIPS, &signs, &mut work, &mut nodes, &mut out), Ok(0));
     assert_eq!(rt; [out[0], out[1]], [0, 9]);
 }
 
 #[test]
 fn short_rows_are_refused(rt: HostRuntime) -> Result<(), Fail> {
     let heap = rt.alloc();
-    assert_eq!(rt;
-        told(heap, 296, 0, 0)?,
-        (Reply::Refused(Refusal::Work(296)), true)
-    );
-    assert_eq!(rt;
-        told(heap, 297, 204, 0)?,
-        (Reply::Refused(Refusal::Nodes(204)), true)
-    );
-    assert_eq!(rt;
-        told(heap, 297, 205, 297)?,
-        (Reply::Refused(Refusal::Out(297)), true)
-    );
-    assert_eq!(rt; told(heap, 297, 205, 298)?, (Reply::Done(4), false));
+    assert_eq!(rt; told(heap, 296, 0, 0)?, (Err(Refusal::Work(296)), true));
+    assert_eq!(rt; told(heap, 297, 204, 0)?, (Err(Refusal::Nodes(204)), true));
+    assert_eq!(rt; told(heap, 297, 205, 297)?, (Err(Refusal::Out(297)), true));
+    assert_eq!(rt; told(heap, 297, 205, 298)?, (Ok(4), false));
     Ok(())
 }
 
 #[test]
 fn the_weight_is_bounded(rt: HostRuntime) -> Result<(), Fail> {
-    assert_eq!(rt; weighed(rt.alloc(), 1001)?, Reply::Done(0), "weight 8,192");
+    assert_eq!(rt; weighed(rt.alloc(), 1001)?, Ok(0), "weight 8,192");
     assert_eq!(rt;
         weighed(rt.alloc(), 1000)?,
-        Reply::Refused(Refusal::Weight),
+        Err(Refusal::Weight),
         "weight 8,193"
     );
     assert_eq!(rt; Refusal::Weight.place(), 8193);
