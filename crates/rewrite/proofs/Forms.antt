@@ -2,7 +2,7 @@
 use Rattle.std.proofs.Common.{◌≡◌, ℕ, zero, suc, ◌+◌, ◌*◌, ◌<◌, ◌≤◌, List, ◌++◌, length, get_or, take, drop, Some, sym, refl, ap, ◌∙◌, subst, ap₂, append_assoc, arith, lt-ltb}
 use Rattle.std.proofs.lemmas.List.{get_or_append_left, length-append, length-drop, length-take-le, take-append-drop, take_at, drop_at}
 use Rattle.query.specs.Query.{Query, scan}
-use Rattle.query.specs.Operators.{operator_at, change_width, pair_width, changed, paired}
+use Rattle.query.specs.Operators.{Sign, operator_at, change_width, pair_width, changed, paired}
 use Rattle.query.specs.Parse.{parsed, reads}
 use Rattle.query.specs.declared.operator.Operator.{Operator}
 use Rattle.query.specs.declared.operator.Operator.TheVariants.{Scan, One, Two}
@@ -13,7 +13,7 @@ use Rattle.query.specs.declared.operator.Pairing.TheVariants.{Product, Union}
 use Rattle.query.proofs.Steps.{differ, operator_whole, operator_long, project_four, select_fits, project_fits, product_fits, union_fits, reads_step}
 use Rattle.query.proofs.Shown.{StandsIn, at_scan, at_one, at_two, front, front_shorter}
 use Rattle.rewrite.specs.Rewritten.{size, width}
-use Rattle.rewrite.specs.Written.{Sign, Written, scanned, changing, pairing, Begun}
+use Rattle.rewrite.specs.Written.{Written, scanned, changing, pairing, Begun}
 
 -- what stands behind its six numbers says nothing of an operator
 pub operator_front : (six after : List ℕ) → length six ≡ 6 → operator_at (six ++ after) ≡ operator_at six

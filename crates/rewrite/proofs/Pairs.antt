@@ -1,8 +1,8 @@
 -- What the steps on products and unions write. Assumes nothing.
-use Rattle.std.proofs.Common.{◌≡◌, ℕ, ◌+◌, ◌≤◌, false, List, [], ◌++◌, Some, None, Option, sym, refl, ap, ◌∙◌, append_assoc, arith, eq-eqb, le-leb}
+use Rattle.std.proofs.Common.{◌≡◌, ℕ, ◌+◌, ◌≤◌, List, [], ◌++◌, Some, None, Option, sym, refl, ap, ◌∙◌, append_assoc, arith, eq-eqb, le-leb}
 use Rattle.std.proofs.lemmas.List.{append-nil}
 use Rattle.query.specs.Query.{Query, product, union}
-use Rattle.query.specs.Operators.{operator_at, pair_width}
+use Rattle.query.specs.Operators.{pair_width}
 use Rattle.query.specs.declared.operator.Operator.TheVariants.{Two}
 use Rattle.query.specs.declared.operator.Pairing.{Pairing}
 use Rattle.query.specs.declared.operator.Pairing.TheVariants.{Product, Union}
@@ -10,9 +10,9 @@ use Rattle.query.proofs.Steps.{product_fits, union_fits}
 use Rattle.rewrite.specs.declared.Step.TheVariants.{UnionOutOfLeft, UnionOutOfRight, RegroupLeft, RegroupRight, SwapUnion}
 use Rattle.rewrite.specs.declared.signs.Inner.{Inner}
 use Rattle.rewrite.specs.Rewritten.{turned}
-use Rattle.rewrite.specs.Written.{Written, pairing, Begun, Taken, Puts, Turns, is_product, is_union}
+use Rattle.rewrite.specs.Written.{pairing, Begun, Pairs, Takes, Puts, Turns}
 use Rattle.rewrite.proofs.Forms.{two_inside}
-use Rattle.rewrite.proofs.Skipping.{Cannot}
+use Rattle.rewrite.proofs.Fronts.{Cannot}
 use Rattle.rewrite.proofs.Turning.{no_product, no_union, not_turned, made}
 
 pub product_some : (a b w : ℕ) → w ≡ a + b → w ≤ 8 → Some w ≡ pair_width Product a b
@@ -23,7 +23,7 @@ union_some a b w e f = rw (eq-eqb a b e) (ap Some f)
 
 -- the query at the front of xs was taken off
 abbrev pub Ends : List ℕ → List ℕ → Inner → Type 0
-Ends ws xs x = (ys : List ℕ) (q : Query) (w : ℕ) (after : List ℕ) → Written ws ys q w → xs ≡ ys ++ after → Taken ys w after x
+Ends ws xs x = Takes ws xs (Some x)
 
 -- the queries that a product or a union needs are there
 module _ (ws at six rest : List ℕ) (j : Pairing) (b : Begun at (Two j) six rest) where
@@ -64,14 +64,14 @@ module _ (ws before at was now : List ℕ) (r : Option ℕ) where
 
   -- a product with a product on its right
   module _ (six rest : List ℕ) (x : Inner) (b : Begun at (Two Product) six rest) (f : Ends ws rest x) where
-    pub no_right_product : is_product (operator_at x.rest.now) ≡ false → Turns ws RegroupLeft before at was was None
+    pub no_right_product : Pairs x.rest.now Product None → Turns ws RegroupLeft before at was was None
     no_right_product n xs q w after s e =
         let k = two_inside ws at six rest after Product b s e in
         let l = f k.left_signs k.left k.left_width _ k.left_written k.parts in
         not_turned ws RegroupLeft before q w after was
         (ap (turned ws RegroupLeft) k.is ∙ no_product x.rest.now after n k.right_written l.rest _)
 
-    pub no_right_union : is_union (operator_at x.rest.now) ≡ false → Turns ws UnionOutOfRight before at was was None
+    pub no_right_union : Pairs x.rest.now Union None → Turns ws UnionOutOfRight before at was was None
     no_right_union n xs q w after s e =
         let k = two_inside ws at six rest after Product b s e in
         let l = f k.left_signs k.left k.left_width _ k.left_written k.parts in
@@ -122,13 +122,13 @@ module _ (ws before at was now : List ℕ) (r : Option ℕ) where
 
   -- a product with a product, or a union, on its left
   module _ (six rest : List ℕ) (b : Begun at (Two Product) six rest) where
-    pub no_left_product : is_product (operator_at rest) ≡ false → Turns ws RegroupRight before at was was None
+    pub no_left_product : Pairs rest Product None → Turns ws RegroupRight before at was was None
     no_left_product n xs q w after s e =
         let k = two_inside ws at six rest after Product b s e in
         not_turned ws RegroupRight before q w after was
         (ap (turned ws RegroupRight) k.is ∙ no_product rest (k.right_signs ++ after) n k.left_written k.parts _)
 
-    pub no_left_union : is_union (operator_at rest) ≡ false → Turns ws UnionOutOfLeft before at was was None
+    pub no_left_union : Pairs rest Union None → Turns ws UnionOutOfLeft before at was was None
     no_left_union n xs q w after s e =
         let k = two_inside ws at six rest after Product b s e in
         not_turned ws UnionOutOfLeft before q w after was

@@ -1,11 +1,9 @@
 //! The operators and queries at the front of some signs.
-ghost use Rattle.rewrite.specs.Written.{Selects, Projects, Products, Unions, Skips, Takes};
+ghost use Rattle.tables.specs.Tables.{widths_in};
+ghost use Rattle.rewrite.specs.Written.{Selects, Projects, Pairs, Takes};
 
-use query::{Change, Operator, Pairing, Reading, Test, next_operator};
-use tables::find;
-
-/// How many numbers an operator takes.
-const SIGNS: usize = 6;
+use query::{Change, Operator, Pairing, Reading, SIGNS, Test, next_operator, read_front};
+use tables::Tables;
 
 /// A selection: its own signs, its test, and the signs after it.
 #[derive(Clone, Copy)]
@@ -16,6 +14,7 @@ pub struct Selected<'a> {
 }
 
 /// A projection: its own signs, how many columns it keeps and which, and the signs after it.
+// A count beside an array: this is how the memory holds a projection, and nothing here allocates.
 #[derive(Clone, Copy)]
 pub struct Projected<'a> {
     pub sign: &'a [u64],
@@ -44,42 +43,14 @@ pub fn select_at(signs: &[u64]) -> Option<Selected<'_>>
     ensures { Selects signs.now result }
 {
     let next = next_operator(signs)?;
-    match next.operator {
-        Operator::One(Change::Select(test)) => Some(Selected {
-            sign: &signs[0..SIGNS],
-            test,
-            rest: next.rest,
-        }),
-        _ => None,
-    }
-}
-
-/// The product at the front of `signs`, if one stands there.
-pub fn product_at(signs: &[u64]) -> Option<Paired<'_>>
-    ensures { Products signs.now result }
-{
-    let next = next_operator(signs)?;
-    match next.operator {
-        Operator::Two(Pairing::Product) => Some(Paired {
-            sign: &signs[0..SIGNS],
-            rest: next.rest,
-        }),
-        _ => None,
-    }
-}
-
-/// The union at the front of `signs`, if one stands there.
-pub fn union_at(signs: &[u64]) -> Option<Paired<'_>>
-    ensures { Unions signs.now result }
-{
-    let next = next_operator(signs)?;
-    match next.operator {
-        Operator::Two(Pairing::Union) => Some(Paired {
-            sign: &signs[0..SIGNS],
-            rest: next.rest,
-        }),
-        _ => None,
-    }
+    let Operator::One(Change::Select(test)) = next.operator else {
+        return None;
+    };
+    Some(Selected {
+        sign: &signs[..SIGNS],
+        test,
+        rest: next.rest,
+    })
 }
 
 /// The projection at the front of `signs`, if one stands there.
@@ -87,71 +58,37 @@ pub fn project_at(signs: &[u64]) -> Option<Projected<'_>>
     ensures { Projects signs.now result }
 {
     let next = next_operator(signs)?;
-    match next.operator {
-        Operator::One(Change::Project(kept, columns)) => Some(Projected {
-            sign: &signs[0..SIGNS],
-            kept,
-            columns,
+    let Operator::One(Change::Project(kept, columns)) = next.operator else {
+        return None;
+    };
+    Some(Projected {
+        sign: &signs[..SIGNS],
+        kept,
+        columns,
+        rest: next.rest,
+    })
+}
+
+/// The product or the union at the front of `signs`, as `pairing` says, if one stands there.
+pub fn pair_at(signs: &[u64], pairing: Pairing) -> Option<Paired<'_>>
+    ensures { Pairs signs.now pairing result }
+{
+    let next = next_operator(signs)?;
+    match (next.operator, pairing) {
+        (Operator::Two(Pairing::Product), Pairing::Product)
+        | (Operator::Two(Pairing::Union), Pairing::Union) => Some(Paired {
+            sign: &signs[..SIGNS],
             rest: next.rest,
         }),
         _ => None,
     }
 }
 
-/// How wide the query at the front of `signs` is, and the signs after it.
-fn skip<'a>(tables: &[u64], signs: &'a [u64]) -> Option<Reading<'a>>
-    ensures { Skips tables.now signs.now result }
-{
-    let Some(next) = next_operator(signs) else {
-        return None;
-    };
-    match next.operator {
-        Operator::Scan(t) => {
-            let Some(table) = find(tables, t as usize) else {
-                return None;
-            };
-            Some(Reading {
-                width: table.columns,
-                rest: next.rest,
-            })
-        }
-        Operator::One(change) => {
-            let Some(of) = skip(tables, next.rest) else {
-                return None;
-            };
-            let Some(width) = change.width(of.width) else {
-                return None;
-            };
-            Some(Reading {
-                width,
-                rest: of.rest,
-            })
-        }
-        Operator::Two(pairing) => {
-            let Some(left) = skip(tables, next.rest) else {
-                return None;
-            };
-            let Some(right) = skip(tables, left.rest) else {
-                return None;
-            };
-            let Some(width) = pairing.width(left.width, right.width) else {
-                return None;
-            };
-            Some(Reading {
-                width,
-                rest: right.rest,
-            })
-        }
-    }
-}
-
 /// The query at the front of `signs`, if one can be read there.
-pub fn query_at<'a>(tables: &[u64], signs: &'a [u64]) -> Option<Inner<'a>>
-    ensures { Takes tables.now signs.now result }
+pub fn query_at<'a>(tables: Tables<'_>, signs: &'a [u64]) -> Option<Inner<'a>>
+    ensures { Takes (widths_in tables.entry.memory.now) signs.now result }
 {
-    let Some(Reading { width, rest }) = skip(tables, signs) else {
-        return None;
-    };
-    let signs = &signs[0..signs.len() - rest.len()];
+    let Reading { width, rest } = read_front(tables.memory, signs).ok()?;
+    let signs = &signs[..signs.len() - rest.len()];
     Some(Inner { signs, width, rest })
 }
