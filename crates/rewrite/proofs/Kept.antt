@@ -49,31 +49,31 @@ cells_below v (d ∷ ds) cs h k =
     let i = and_parts (ltb d (length cs)) (all_below (length cs) ds) k in
     rw (lt-ltb (get_or cs d 0) v (column_within v cs d h (ltb-true d (length cs) i.0)), cells_below v ds cs h i.1)
 
--- a projection keeps at most four columns
-pub few_kept : (ws at six rest : List ℕ) (n : ℕ) (cs : List ℕ) → Begun at (One (Project n cs)) six rest → 4 < n → Cannot ws at
-few_kept ws at six rest n cs b h xs q w after s e =
+-- a projection has at least as many columns as it keeps
+pub few_kept : {ws at six rest : List ℕ} {n : ℕ} {cs : List ℕ} → Begun at (One (Project n cs)) six rest → length cs < n → Cannot ws at
+few_kept {ws} {at} {six} {rest} {n} {cs} b h xs q w after s e =
     let k = one_inside ws at six rest after (Project n cs) b s e in
-    let p = project_fits n cs k.from w k.fits in omega (arith, p.few)
+    let p = project_fits n cs k.from w k.fits in omega (arith, p.few, project_four six n cs b.sign.is)
 
 kept_long : (six : List ℕ) (n : ℕ) (cs : List ℕ) → Sign six (One (Project n cs)) → n ≤ 4 → length (take n cs) ≡ n
 kept_long six n cs s h = length-take-le n cs (omega (arith, project_four six n cs s.is))
 
-module _ (ws before at was now six rest : List ℕ) (r : Option ℕ) where
-  pub no_projection_below : (c : Test) → Begun at (One (Select c)) six rest → Projects rest None → Turns ws TestBelowProjection before at was was None
-  no_projection_below c b n xs q w after s e =
+module _ {ws : List ℕ} (before : List ℕ) {at : List ℕ} (was : List ℕ) {six rest : List ℕ} where
+  pub no_projection_below : {c : Test} → Begun at (One (Select c)) six rest → Projects rest None → Turns ws TestBelowProjection before at was was None
+  no_projection_below {c} b n xs q w after s e =
       let k = one_inside ws at six rest after (Select c) b s e in
       not_turned ws TestBelowProjection before q w after was (ap (turned ws TestBelowProjection) k.is ∙ no_project rest after n k.written k.parts _)
 
-  pub no_second_projection : (n : ℕ) (ds : List ℕ) → Begun at (One (Project n ds)) six rest → Projects rest None →
+  pub no_second_projection : {n : ℕ} {ds : List ℕ} → Begun at (One (Project n ds)) six rest → Projects rest None →
       Turns ws JoinProjections before at was was None
-  no_second_projection n ds b none xs q w after s e =
+  no_second_projection {n} {ds} b none xs q w after s e =
       let k = one_inside ws at six rest after (Project n ds) b s e in
       not_turned ws JoinProjections before q w after was (ap (turned ws JoinProjections) k.is ∙ no_project rest after none k.written k.parts _)
 
-  pub test_below_projection_made : (c d : Test) (n : ℕ) (cs six₂ rest₂ six₃ : List ℕ) → Begun at (One (Select c)) six rest →
+  pub test_below_projection_made : (now : List ℕ) (r : Option ℕ) {c d : Test} {n : ℕ} {cs six₂ rest₂ six₃ : List ℕ} → Begun at (One (Select c)) six rest →
       Begun rest (One (Project n cs)) six₂ rest₂ → Sign six₃ (One (Select d)) → test_of d ≡ through (take n cs) (test_of c) →
       Puts (before ++ (six₂ ++ (six₃ ++ (rest₂ ++ [])))) was now r → Turns ws TestBelowProjection before at was now r
-  test_below_projection_made c d n cs six₂ rest₂ six₃ b b₂ sign j put xs q w after s e =
+  test_below_projection_made now r {c} {d} {n} {cs} {six₂} {rest₂} {six₃} b b₂ sign j put xs q w after s e =
       let k = one_inside ws at six rest after (Select c) b s e in
       let k₂ = one_inside ws rest six₂ rest₂ after (Project n cs) b₂ k.written k.parts in
       let u = select_fits c k.from w k.fits in
@@ -88,10 +88,10 @@ module _ (ws before at was now six rest : List ℕ) (r : Option ℕ) where
       (ap (λ us. before ++ (six₂ ++ (six₃ ++ (us ++ [])))) k₂.parts ∙ simp (append_assoc, append-nil))
       put
 
-  pub join_projections_made : (n m : ℕ) (ds cs es more six₂ rest₂ six₃ : List ℕ) → Begun at (One (Project n ds)) six rest →
+  pub join_projections_made : (now : List ℕ) (r : Option ℕ) {n m : ℕ} {ds cs es six₂ rest₂ six₃ : List ℕ} (more : List ℕ) → Begun at (One (Project n ds)) six rest →
       Begun rest (One (Project m cs)) six₂ rest₂ → Sign six₃ (One (Project n es)) → es ≡ cells (take n ds) (take m cs) ++ more →
       Puts (before ++ (six₃ ++ (rest₂ ++ []))) was now r → Turns ws JoinProjections before at was now r
-  join_projections_made n m ds cs es more six₂ rest₂ six₃ b b₂ sign j put xs q w after s e =
+  join_projections_made now r {n} {m} {ds} {cs} {es} {six₂} {rest₂} {six₃} more b b₂ sign j put xs q w after s e =
       let k = one_inside ws at six rest after (Project n ds) b s e in
       let k₂ = one_inside ws rest six₂ rest₂ after (Project m cs) b₂ k.written k.parts in
       let u = project_fits n ds k.from w k.fits in

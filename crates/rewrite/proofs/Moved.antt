@@ -44,11 +44,11 @@ behind_fits (Below a n) (Same a' b') u v h k e = absurd (differ cc)
 behind_fits (Below a n) (Is a' n') u v h k e = absurd (differ cc)
 
 -- what a test needs is there
-pub below_there : (ws at six rest : List ℕ) (c : Change) → Begun at (One c) six rest → Cannot ws rest → Cannot ws at
-below_there ws at six rest c b n xs q w after s e =
+pub below_there : {ws at six rest : List ℕ} {c : Change} → Begun at (One c) six rest → Cannot ws rest → Cannot ws at
+below_there {ws} {at} {six} {rest} {c} b n xs q w after s e =
     let k = one_inside ws at six rest after c b s e in n k.signs k.inner k.from after k.written k.parts
 
-module _ (ws before at was now six rest : List ℕ) (r : Option ℕ) (c : Test) (b : Begun at (One (Select c)) six rest) where
+module _ {ws : List ℕ} (before : List ℕ) {at : List ℕ} (was : List ℕ) {six rest : List ℕ} {c : Test} (b : Begun at (One (Select c)) six rest) where
   -- what is below the test is of another form
   pub no_test_below : Selects rest None → Turns ws SwapTests before at was was None
   no_test_below n xs q w after s e =
@@ -70,9 +70,9 @@ module _ (ws before at was now six rest : List ℕ) (r : Option ℕ) (c : Test) 
       let k = one_inside ws at six rest after (Select c) b s e in
       not_turned ws TestIntoUnion before q w after was (ap (turned ws TestIntoUnion) k.is ∙ no_union rest after n k.written k.parts _)
 
-  pub swap_tests_made : (d : Test) (six₂ rest₂ : List ℕ) → Begun rest (One (Select d)) six₂ rest₂ →
+  pub swap_tests_made : (now : List ℕ) (r : Option ℕ) {d : Test} {six₂ rest₂ : List ℕ} → Begun rest (One (Select d)) six₂ rest₂ →
       Puts (before ++ (six₂ ++ (six ++ (rest₂ ++ [])))) was now r → Turns ws SwapTests before at was now r
-  swap_tests_made d six₂ rest₂ b₂ put xs q w after s e =
+  swap_tests_made now r {d} {six₂} {rest₂} b₂ put xs q w after s e =
       let k = one_inside ws at six rest after (Select c) b s e in
       let k₂ = one_inside ws rest six₂ rest₂ after (Select d) b₂ k.written k.parts in
       let u = select_fits c k.from w k.fits in
@@ -85,7 +85,7 @@ module _ (ws before at was now six rest : List ℕ) (r : Option ℕ) (c : Test) 
       (ap (λ us. before ++ (six₂ ++ (six ++ (us ++ [])))) k₂.parts ∙ simp (append_assoc, append-nil))
       put
 
-  module _ (six₂ rest₂ : List ℕ) (x : Inner) (b₂ : Begun rest (Two Product) six₂ rest₂) (f : Ends ws rest₂ x) where
+  module _ {six₂ rest₂ : List ℕ} {x : Inner} (b₂ : Begun rest (Two Product) six₂ rest₂) (f : Ends ws rest₂ x) where
     pub not_within : test_fits c x.width ≡ false → Turns ws TestIntoLeft before at was was None
     not_within n xs q w after s e =
         let k = one_inside ws at six rest after (Select c) b s e in
@@ -105,9 +105,9 @@ module _ (ws before at was now six rest : List ℕ) (r : Option ℕ) (c : Test) 
         (ap (turned ws TestIntoRight) (k.is ∙ ap (select (test_of c)) k₂.is)
         ∙ ap (λ t. pick t (Some (product k₂.left (select (earlier (width ws k₂.left) (test_of c)) k₂.right))) None) no)
 
-    pub test_into_left_made : test_fits c x.width ≡ true →
+    pub test_into_left_made : (now : List ℕ) (r : Option ℕ) → test_fits c x.width ≡ true →
         Puts (before ++ (six₂ ++ (six ++ (rest₂ ++ [])))) was now r → Turns ws TestIntoLeft before at was now r
-    test_into_left_made h put xs q w after s e =
+    test_into_left_made now r h put xs q w after s e =
         let k = one_inside ws at six rest after (Select c) b s e in
         let k₂ = two_inside ws rest six₂ rest₂ after Product b₂ k.written k.parts in
         let l = f k₂.left_signs k₂.left k₂.left_width _ k₂.left_written k₂.parts in
@@ -126,10 +126,10 @@ module _ (ws before at was now six rest : List ℕ) (r : Option ℕ) (c : Test) 
         (ap (λ us. before ++ (six₂ ++ (six ++ (us ++ [])))) k₂.parts ∙ simp (append_assoc, append-nil))
         put
 
-    pub test_into_right_made : (d : Test) (six₃ : List ℕ) → behind x.width (test_of c) ≡ true → test_of d ≡ earlier x.width (test_of c) →
+    pub test_into_right_made : (now : List ℕ) (r : Option ℕ) {d : Test} {six₃ : List ℕ} → behind x.width (test_of c) ≡ true → test_of d ≡ earlier x.width (test_of c) →
         Sign six₃ (One (Select d)) → Puts (before ++ (six₂ ++ (x.signs.now ++ (six₃ ++ (x.rest.now ++ []))))) was now r →
         Turns ws TestIntoRight before at was now r
-    test_into_right_made d six₃ h i sign put xs q w after s e =
+    test_into_right_made now r {d} {six₃} h i sign put xs q w after s e =
         let k = one_inside ws at six rest after (Select c) b s e in
         let k₂ = two_inside ws rest six₂ rest₂ after Product b₂ k.written k.parts in
         let l = f k₂.left_signs k₂.left k₂.left_width _ k₂.left_written k₂.parts in
@@ -152,9 +152,9 @@ module _ (ws before at was now six rest : List ℕ) (r : Option ℕ) (c : Test) 
         (rw (l.signs, l.rest) (simp (append_assoc, append-nil)))
         put
 
-  pub test_into_union_made : (six₂ rest₂ : List ℕ) (x : Inner) → Begun rest (Two Union) six₂ rest₂ → Ends ws rest₂ x →
+  pub test_into_union_made : (now : List ℕ) (r : Option ℕ) {six₂ rest₂ : List ℕ} {x : Inner} → Begun rest (Two Union) six₂ rest₂ → Ends ws rest₂ x →
       Puts (before ++ (six₂ ++ (six ++ (x.signs.now ++ (six ++ (x.rest.now ++ [])))))) was now r → Turns ws TestIntoUnion before at was now r
-  test_into_union_made six₂ rest₂ x b₂ f put xs q w after s e =
+  test_into_union_made now r {six₂} {rest₂} {x} b₂ f put xs q w after s e =
       let k = one_inside ws at six rest after (Select c) b s e in
       let k₂ = two_inside ws rest six₂ rest₂ after Union b₂ k.written k.parts in
       let l = f k₂.left_signs k₂.left k₂.left_width _ k₂.left_written k₂.parts in

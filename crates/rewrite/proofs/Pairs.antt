@@ -26,31 +26,31 @@ abbrev pub Ends : List ℕ → List ℕ → Inner → Type 0
 Ends ws xs x = Takes ws xs (Some x)
 
 -- the queries that a product or a union needs are there
-module _ (ws at six rest : List ℕ) (j : Pairing) (b : Begun at (Two j) six rest) where
+module _ {ws at six rest : List ℕ} {j : Pairing} (b : Begun at (Two j) six rest) where
   pub left_there : Cannot ws rest → Cannot ws at
   left_there n xs q w after s e =
       let k = two_inside ws at six rest after j b s e in n k.left_signs k.left k.left_width _ k.left_written k.parts
 
-  pub right_there : (x : Inner) → Ends ws rest x → Cannot ws x.rest.now → Cannot ws at
-  right_there x f n xs q w after s e =
+  pub right_there : {x : Inner} → Ends ws rest x → Cannot ws x.rest.now → Cannot ws at
+  right_there f n xs q w after s e =
       let k = two_inside ws at six rest after j b s e in
       let l = f k.left_signs k.left k.left_width _ k.left_written k.parts in
       n k.right_signs k.right k.right_width after k.right_written l.rest
 
   -- and so are those that a product or a union on its left needs
-  pub third_there : (i : Pairing) (six₂ rest₂ : List ℕ) (x y : Inner) → Begun rest (Two i) six₂ rest₂ → Ends ws rest₂ x → Ends ws x.rest.now y →
+  pub third_there : {i : Pairing} {six₂ rest₂ : List ℕ} {x y : Inner} → Begun rest (Two i) six₂ rest₂ → Ends ws rest₂ x → Ends ws x.rest.now y →
       Cannot ws y.rest.now → Cannot ws at
-  third_there i six₂ rest₂ x y b₂ f g n xs q w after s e =
+  third_there {i} {six₂} {rest₂} b₂ f g n xs q w after s e =
       let k = two_inside ws at six rest after j b s e in
       let k₂ = two_inside ws rest six₂ rest₂ (k.right_signs ++ after) i b₂ k.left_written k.parts in
       let l = f k₂.left_signs k₂.left k₂.left_width _ k₂.left_written k₂.parts in
       let m = g k₂.right_signs k₂.right k₂.right_width _ k₂.right_written l.rest in
       n k.right_signs k.right k.right_width after k.right_written m.rest
 
-module _ (ws before at was now : List ℕ) (r : Option ℕ) where
-  pub swap_union_made : (six rest : List ℕ) (x y : Inner) → Begun at (Two Union) six rest → Ends ws rest x → Ends ws x.rest.now y →
+module _ {ws : List ℕ} (before : List ℕ) {at : List ℕ} (was : List ℕ) where
+  pub swap_union_made : (now : List ℕ) (r : Option ℕ) {six rest : List ℕ} {x y : Inner} → Begun at (Two Union) six rest → Ends ws rest x → Ends ws x.rest.now y →
       Puts (before ++ (six ++ (y.signs.now ++ (x.signs.now ++ (y.rest.now ++ []))))) was now r → Turns ws SwapUnion before at was now r
-  swap_union_made six rest x y b f g put xs q w after s e =
+  swap_union_made now r {six} {rest} {x} {y} b f g put xs q w after s e =
       let k = two_inside ws at six rest after Union b s e in
       let l = f k.left_signs k.left k.left_width _ k.left_written k.parts in
       let m = g k.right_signs k.right k.right_width after k.right_written l.rest in
@@ -63,7 +63,7 @@ module _ (ws before at was now : List ℕ) (r : Option ℕ) where
       put
 
   -- a product with a product on its right
-  module _ (six rest : List ℕ) (x : Inner) (b : Begun at (Two Product) six rest) (f : Ends ws rest x) where
+  module _ {six rest : List ℕ} {x : Inner} (b : Begun at (Two Product) six rest) (f : Ends ws rest x) where
     pub no_right_product : Pairs x.rest.now Product None → Turns ws RegroupLeft before at was was None
     no_right_product n xs q w after s e =
         let k = two_inside ws at six rest after Product b s e in
@@ -78,7 +78,7 @@ module _ (ws before at was now : List ℕ) (r : Option ℕ) where
         not_turned ws UnionOutOfRight before q w after was
         (ap (turned ws UnionOutOfRight) k.is ∙ no_union x.rest.now after n k.right_written l.rest _)
 
-    module _ (six₂ rest₂ : List ℕ) where
+    module _ (now : List ℕ) (r : Option ℕ) {six₂ rest₂ : List ℕ} where
       pub regroup_left_made : Begun x.rest.now (Two Product) six₂ rest₂ →
           Puts (before ++ (six ++ (six₂ ++ (x.signs.now ++ (rest₂ ++ []))))) was now r → Turns ws RegroupLeft before at was now r
       regroup_left_made b₂ put xs q w after s e =
@@ -98,10 +98,10 @@ module _ (ws before at was now : List ℕ) (r : Option ℕ) where
           (ap (λ us. before ++ (six ++ (six₂ ++ (x.signs.now ++ (us ++ []))))) k₂.parts ∙ rw l.signs (simp (append_assoc, append-nil)))
           put
 
-      pub union_out_of_right_made : (y : Inner) → Begun x.rest.now (Two Union) six₂ rest₂ → Ends ws rest₂ y →
+      pub union_out_of_right_made : {y : Inner} → Begun x.rest.now (Two Union) six₂ rest₂ → Ends ws rest₂ y →
           Puts (before ++ (six₂ ++ (six ++ (x.signs.now ++ (y.signs.now ++ (six ++ (x.signs.now ++ (y.rest.now ++ [])))))))) was now r →
           Turns ws UnionOutOfRight before at was now r
-      union_out_of_right_made y b₂ g put xs q w after s e =
+      union_out_of_right_made {y} b₂ g put xs q w after s e =
           let k = two_inside ws at six rest after Product b s e in
           let l = f k.left_signs k.left k.left_width _ k.left_written k.parts in
           let k₂ = two_inside ws x.rest.now six₂ rest₂ after Union b₂ k.right_written l.rest in
@@ -121,7 +121,7 @@ module _ (ws before at was now : List ℕ) (r : Option ℕ) where
           put
 
   -- a product with a product, or a union, on its left
-  module _ (six rest : List ℕ) (b : Begun at (Two Product) six rest) where
+  module _ {six rest : List ℕ} (b : Begun at (Two Product) six rest) where
     pub no_left_product : Pairs rest Product None → Turns ws RegroupRight before at was was None
     no_left_product n xs q w after s e =
         let k = two_inside ws at six rest after Product b s e in
@@ -134,9 +134,9 @@ module _ (ws before at was now : List ℕ) (r : Option ℕ) where
         not_turned ws UnionOutOfLeft before q w after was
         (ap (turned ws UnionOutOfLeft) k.is ∙ no_union rest (k.right_signs ++ after) n k.left_written k.parts _)
 
-    pub regroup_right_made : (six₂ rest₂ : List ℕ) (x : Inner) → Begun rest (Two Product) six₂ rest₂ → Ends ws rest₂ x →
+    pub regroup_right_made : (now : List ℕ) (r : Option ℕ) {six₂ rest₂ : List ℕ} {x : Inner} → Begun rest (Two Product) six₂ rest₂ → Ends ws rest₂ x →
         Puts (before ++ (six ++ (x.signs.now ++ (six₂ ++ (x.rest.now ++ []))))) was now r → Turns ws RegroupRight before at was now r
-    regroup_right_made six₂ rest₂ x b₂ f put xs q w after s e =
+    regroup_right_made now r {six₂} {rest₂} {x} b₂ f put xs q w after s e =
         let k = two_inside ws at six rest after Product b s e in
         let k₂ = two_inside ws rest six₂ rest₂ (k.right_signs ++ after) Product b₂ k.left_written k.parts in
         let l = f k₂.left_signs k₂.left k₂.left_width _ k₂.left_written k₂.parts in
@@ -152,11 +152,11 @@ module _ (ws before at was now : List ℕ) (r : Option ℕ) where
         (rw (l.signs, l.rest) (simp (append_assoc, append-nil)))
         put
 
-    pub union_out_of_left_made : (six₂ rest₂ : List ℕ) (x y z : Inner) → Begun rest (Two Union) six₂ rest₂ →
+    pub union_out_of_left_made : (now : List ℕ) (r : Option ℕ) {six₂ rest₂ : List ℕ} {x y z : Inner} → Begun rest (Two Union) six₂ rest₂ →
         Ends ws rest₂ x → Ends ws x.rest.now y → Ends ws y.rest.now z →
         Puts (before ++ (six₂ ++ (six ++ (x.signs.now ++ (z.signs.now ++ (six ++ (y.signs.now ++ (y.rest.now ++ [])))))))) was now r →
         Turns ws UnionOutOfLeft before at was now r
-    union_out_of_left_made six₂ rest₂ x y z b₂ f g h put xs q w after s e =
+    union_out_of_left_made now r {six₂} {rest₂} {x} {y} {z} b₂ f g h put xs q w after s e =
         let k = two_inside ws at six rest after Product b s e in
         let k₂ = two_inside ws rest six₂ rest₂ (k.right_signs ++ after) Union b₂ k.left_written k.parts in
         let l = f k₂.left_signs k₂.left k₂.left_width _ k₂.left_written k₂.parts in

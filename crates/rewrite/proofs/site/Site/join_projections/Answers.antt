@@ -1,0 +1,22 @@
+use Rattle.std.proofs.Common.{arith}
+use Rattle.rewrite.specs.Written.{together}
+use Rattle.rewrite.proofs.Turning.{no_project, not_turned, not_there}
+use Rattle.rewrite.proofs.Moved.{below_there}
+use Rattle.rewrite.proofs.Kept.{few_kept, no_second_projection, join_projections_made}
+use Rattle.rewrite.proofs.site.Site.join_projections.Goals as goal
+
+pub returns-in_err-outer : goal.returns-in_err-outer
+returns-in_err-outer c = rw c.from_residual.ensures (λ xs q w after s e. not_turned _ _ _ q w after _ (no_project _ after c.in_err-outer.ensures s e _))
+
+pub returns-in_err-inner : goal.returns-in_err-inner
+returns-in_err-inner c = rw c.from_residual-in_err-inner.ensures (no_second_projection _ _ c.in_ok-outer.ensures c.in_err-inner.ensures)
+
+pub returns-in_err-get : goal.returns-in_err-get
+returns-in_err-get c = rw c.from_residual-in_err-get.ensures (not_there (few_kept c.in_ok-outer.ensures (omega (arith, c.in_err-get.ensures.lookup))))
+
+pub returns-in_err-get-2 : goal.returns-in_err-get-2
+returns-in_err-get-2 c = rw c.from_residual-in_err-get-2.ensures (not_there (below_there c.in_ok-outer.ensures (few_kept c.in_ok-inner.ensures (omega (arith, c.in_err-get-2.ensures.lookup)))))
+
+pub returns : goal.returns
+unfolding together
+returns c = let z : ⊥ = c.in_ok-get.ensures.lookup in let y : ⊥ = c.keep_cells.ensures in let u : ⊥ = c.from-joined.ensures in ?
