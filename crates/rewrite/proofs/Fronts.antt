@@ -17,6 +17,11 @@ use Rattle.rewrite.proofs.Forms.{stands_there, reads_there}
 abbrev pub Cannot : List ℕ → List ℕ → Type 0
 Cannot ws at = Fronts ws at (λ ys w after. ⊥)
 
+-- what is there was told
+pub ok_was : {T E : Type 0} (r : Result T E) (x : T) → result_ok r ≡ Some x → r ≡ Ok x
+ok_was (Ok y) x e = let same : y ≡ x = cc in ap Ok same
+ok_was (Err f) x e = absurd (differ cc)
+
 module _ (n : ℕ) (ws xs : List ℕ) where
   -- with fuel that is enough, what is written in front is read
   read_there : {ys : List ℕ} {q : Query} {w : ℕ} (after : List ℕ) → Written ws ys q w → xs ≡ ys ++ after → reads (length xs) n ws xs ≡ parsed q w after
@@ -28,15 +33,11 @@ module _ (n : ℕ) (ws xs : List ℕ) where
   not_read (Ok x) e a = absurd (differ cc)
   not_read (Err f) e a = λ ys q w after s g. no_fault _ q w after (sym (a (length xs) (omega arith)) ∙ read_there after s g)
 
-  pub front_read : (r : Result Reading Faulty) (x : Reading) → result_ok r ≡ Some x → Reads n ws xs r →
-      Fronts ws xs (λ ys w after. (x.width ≡ w) × (x.rest.now ≡ after))
-  front_read (Err f) x e a = absurd (differ cc)
-  front_read (Ok r) x e a = λ ys q w after s g.
-      let same : r ≡ x = cc in
+  pub front_read : (x : Reading) → Reads n ws xs (Ok x) → Fronts ws xs (λ ys w after. (x.width ≡ w) × (x.rest.now ≡ after))
+  front_read x a ys q w after s g =
       let b = a (length xs) (omega arith) in
-      let k : parsed b.0 r.width r.rest.now ≡ parsed q w after = sym b.1 ∙ read_there after s g in
-      let width : r.width ≡ w = cc in let rest : r.rest.now ≡ after = cc in
-      (ap (λ (x : Reading). x.width) (sym same) ∙ width, ap (λ (x : Reading). x.rest.now) (sym same) ∙ rest)
+      let k : parsed b.0 x.width x.rest.now ≡ parsed q w after = sym b.1 ∙ read_there after s g in
+      (cc, cc)
 
 -- its own signs are those before what is left
 pub front_taken : (at xs after rest : List ℕ) → at ≡ xs ++ after → rest ≡ after → take (length at - length rest) at ≡ xs

@@ -1,5 +1,5 @@
-use Rattle.std.proofs.Common.{length, ◌/◌, sym, ◌∙◌}
-use Rattle.rewrite.proofs.Fronts.{not_read, front_read, front_taken}
+use Rattle.std.proofs.Common.{sym, ◌∙◌}
+use Rattle.rewrite.proofs.Fronts.{ok_was, not_read, front_read, front_taken}
 use Rattle.rewrite.proofs.signs.query_at.Goals as goal
 
 pub returns-in_err-width : goal.returns-in_err-width
@@ -9,5 +9,6 @@ returns-in_err-width c =
 
 pub returns : goal.returns
 returns c ys q w after s e =
-    let k = front_read _ _ _ c.read_front.result c.in_ok-width.field-0 (sym c.ok.ensures.value ∙ c.in_ok-width.was) (c.read_front.ensures.agrees c.args.tables.whole) ys q w after s e in
+    let read = ok_was c.read_front.result _ (sym c.ok.ensures.value ∙ c.in_ok-width.was) in
+    let k = front_read _ _ _ c.in_ok-width.field-0 (rw read at c.read_front.ensures.agrees c.args.tables.whole) ys q w after s e in
     record { signs = front_taken _ ys after _ e k.1; width = k.0; rest = k.1 }

@@ -1,8 +1,9 @@
-use Rattle.std.proofs.Common.{arith}
+use Rattle.std.proofs.Common.{[], ◌∷◌, ◌++◌, length, drop, ◌∙◌, ap₂, arith}
+use Rattle.query.specs.Query.{cells}
 use Rattle.rewrite.specs.Written.{together}
 use Rattle.rewrite.proofs.Turning.{no_project, not_turned, not_there}
 use Rattle.rewrite.proofs.Moved.{below_there}
-use Rattle.rewrite.proofs.Kept.{few_kept, no_second_projection, join_projections_made}
+use Rattle.rewrite.proofs.Kept.{few_kept, range_front, no_second_projection, join_projections_made}
 use Rattle.rewrite.proofs.site.Site.join_projections.Goals as goal
 
 pub returns-in_err-outer : goal.returns-in_err-outer
@@ -19,4 +20,8 @@ returns-in_err-get-2 c = rw c.from_residual-in_err-get-2.ensures (not_there (bel
 
 pub returns : goal.returns
 unfolding together
-returns c = let z : ⊥ = c.in_ok-get.ensures.lookup in let y : ⊥ = c.keep_cells.ensures in let u : ⊥ = c.from-joined.ensures in ?
+returns c =
+    let outer = c.in_ok-get.ensures.lookup.0.2 ∙ range_front c.in_ok-outer.outer.kept c.in_ok-outer.outer.columns in
+    let inner = c.in_ok-get-2.ensures.lookup.0.2 ∙ range_front c.in_ok-inner.inner.kept c.in_ok-inner.inner.columns in
+    join_projections_made _ _ _ _ _ c.in_ok-outer.ensures c.in_ok-inner.ensures c.from-joined.ensures
+    (c.keep_cells.ensures ∙ ap₂ (λ ds cs. cells ds cs ++ drop (length c.in_ok-get.field-0.now) (0 ∷ 0 ∷ 0 ∷ 0 ∷ [])) outer inner) c.put.ensures

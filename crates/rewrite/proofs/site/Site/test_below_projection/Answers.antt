@@ -1,8 +1,10 @@
-use Rattle.std.proofs.Common.{arith}
+use Rattle.std.proofs.Common.{ap, ◌∙◌, arith}
+use Rattle.provenance.specs.Rewriting.{through}
+use Rattle.query.specs.Operators.{test_of}
 use Rattle.rewrite.specs.Written.{together}
 use Rattle.rewrite.proofs.Turning.{no_test, not_turned, not_there}
 use Rattle.rewrite.proofs.Moved.{below_there}
-use Rattle.rewrite.proofs.Kept.{few_kept, no_projection_below, test_below_projection_made}
+use Rattle.rewrite.proofs.Kept.{few_kept, range_front, no_projection_below, test_below_projection_made}
 use Rattle.rewrite.proofs.site.Site.test_below_projection.Goals as goal
 
 pub returns-in_err-selected : goal.returns-in_err-selected
@@ -16,4 +18,7 @@ returns-in_err-columns c = rw c.from_residual-in_err-columns.ensures (not_there 
 
 pub returns : goal.returns
 unfolding together
-returns c = let z : ⊥ = c.in_ok-columns.ensures.lookup in let y : ⊥ = c.test_through-test.ensures in let u : ⊥ = c.from-moved.ensures in ?
+returns c =
+    let columns = c.in_ok-columns.ensures.lookup.0.2 ∙ range_front c.in_ok-projected.projected.kept c.in_ok-projected.projected.columns in
+    test_below_projection_made _ _ _ _ c.in_ok-selected.ensures c.in_ok-projected.ensures c.from-moved.ensures
+    (c.test_through-test.ensures ∙ ap (λ cs. through cs (test_of c.in_ok-selected.selected.test)) columns) c.put.ensures
