@@ -1,6 +1,6 @@
 -- Parts one behind another. Assumes nothing.
-use Rattle.std.proofs.Common.{◌≡◌, ℕ, ◌+◌, ◌<◌, ◌≤◌, List, [], ◌∷◌, ◌++◌, length, get_or, take, drop, sym, refl, ap, ◌∙◌, append_assoc, arith, Bor}
-use Rattle.std.proofs.lemmas.List.{append-nil, length-append, at_drop_more, at_drop_all, take_more, take_at, take_all, drop_at, drop-drop}
+use Rattle.std.proofs.Common.{◌≡◌, ℕ, ◌+◌, ◌-◌, ◌<◌, ◌≤◌, List, [], ◌∷◌, ◌++◌, length, get_or, take, drop, sym, refl, ap, ◌∙◌, append_assoc, arith, Bor}
+use Rattle.std.proofs.lemmas.List.{append-nil, length-append, length-drop, at_drop_more, at_drop_all, take_more, take_at, take_all, drop_at, drop-drop}
 use Rattle.std.proofs.lemmas.Slice.{put_mid-paste}
 use borrow.Rule.Slice.PartMut.{put_mid}
 use Rattle.rewrite.specs.Written.{together}
@@ -16,21 +16,31 @@ module _ (ps : List (Bor (List ℕ))) where
   unfolding together
   left_all i h = at_drop_all (λ xs. length (together xs)) ps i h
 
-together_push : (xs : List (Bor (List ℕ))) (x : Bor (List ℕ)) → together (xs ++ x ∷ []) ≡ together xs ++ x.now
+-- the first part, and those after it
+pub others : {A : Type 0} (ps : List A) → take (length ps - 1) (drop 1 ps) ≡ drop 1 ps
+others ps = take_all (length ps - 1) (drop 1 ps) (omega (arith, length-drop 1 ps))
+
+pub together_none : (ps : List (Bor (List ℕ))) → length ps < 1 → together ps ≡ []
 unfolding together
-together_push [] x = rw append-nil
-together_push (y ∷ ys) x = rw (together_push ys x, append_assoc)
+together_none [] h = refl
+together_none (p ∷ ps) h = absurd (omega arith)
 
-pub taken_more : (ps : List (Bor (List ℕ))) (i : ℕ) (d : Bor (List ℕ)) → i < length ps →
-    together (take (i + 1) ps) ≡ together (take i ps) ++ (get_or ps i d).now
-taken_more ps i d h = ap together (take_more ps i d h) ∙ together_push (take i ps) (get_or ps i d)
+together_first : (ps : List (Bor (List ℕ))) (d : Bor (List ℕ)) → 1 ≤ length ps →
+    together ps ≡ (get_or ps 0 d).now ++ together (take (length ps - 1) (drop 1 ps))
+unfolding together
+together_first [] d h = absurd (omega arith)
+together_first (p ∷ ps) d h = ap (λ us. p.now ++ together us) (sym (others (p ∷ ps)))
 
--- a part written behind those before it
-pub pasted : (front x was into now : List ℕ) (start k : ℕ) → start ≡ length front → into ≡ front ++ drop start was → now ≡ x → length x ≡ k →
-    put_mid start k into now ≡ front ++ x ++ drop (start + length x) was
-pasted front x was into now start k e f g h =
-    let taken : take start into ≡ front = ap (take start) f ∙ take_at front (drop start was) start (sym e) in
-    let left : drop start into ≡ drop start was = ap (drop start) f ∙ drop_at front (drop start was) start (sym e) in
-    let behind : drop (start + length x) into ≡ drop (start + length x) was =
-    sym (drop-drop (length x) start into) ∙ ap (drop (length x)) left ∙ drop-drop (length x) start was in
-    put_mid-paste start k into now x (length x) g h refl ∙ rw (taken, behind, take_all (length x) x (omega arith))
+pub length_first : (ps : List (Bor (List ℕ))) (d : Bor (List ℕ)) → 1 ≤ length ps →
+    length (together ps) ≡ length (get_or ps 0 d).now + length (together (take (length ps - 1) (drop 1 ps)))
+length_first ps d h = ap length (together_first ps d h) ∙ length-append (get_or ps 0 d).now (together (take (length ps - 1) (drop 1 ps)))
+
+-- the first part written, and those after it behind it
+pub written_behind : (ps : List (Bor (List ℕ))) (d : Bor (List ℕ)) → 1 ≤ length ps → (into behind front rest : List ℕ) →
+    behind ≡ drop (length (get_or ps 0 d).now) into → front ≡ (get_or ps 0 d).now →
+    (let us = together (take (length ps - 1) (drop 1 ps)) in rest ≡ us ++ drop (length us) behind) →
+    front ++ rest ≡ together ps ++ drop (length (together ps)) into
+written_behind ps d h into behind front rest e f g =
+    let us = together (take (length ps - 1) (drop 1 ps)) in
+    let x = (get_or ps 0 d).now in
+    rw (together_first ps d h, f, g, e, length-append x us, append_assoc x us _, drop-drop (length us) (length x) into) refl

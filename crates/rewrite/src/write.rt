@@ -21,11 +21,12 @@ fn copy(parts: &[&[u64]], into: &mut [u64])
     requires { length (together parts.now) ≤ length into.old }
     ensures { into.new ≡ together parts.now ++ drop (length (together parts.now)) into.old }
 {
-    let mut start = 0;
-    for part in parts {
-        into[start..start + part.len()].copy_from_slice(part);
-        start += part.len();
-    }
+    let [part, others @ ..] = parts else {
+        return;
+    };
+    let (front, rest) = into.split_at_mut(part.len());
+    front.copy_from_slice(part);
+    copy(others, rest);
 }
 
 /// Writes the parts one behind another to the front of `into`, if they fit there and are no more than a query may have.
