@@ -18,10 +18,7 @@ impl<'a> Site<'a> {
         let columns = projected.columns.get(..projected.kept as usize)?;
         let test = test_through(selected.test, columns);
         let moved = <[u64; SIGNS]>::from(Operator::One(Change::Select(test)));
-        put(
-            &[self.before, projected.sign, &moved, projected.rest],
-            into,
-        )
+        put(&[self.before, projected.sign, &moved, projected.rest], into)
     }
 
     /// Two projections become one.

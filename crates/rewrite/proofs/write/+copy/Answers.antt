@@ -15,8 +15,7 @@ split_at_mut-front-requires t c =
 pub copy-requires : goal.copy-requires
 copy-requires t c =
     let us = ap length (others c.args.parts.now) in
-    let first = length_first c.args.parts.now (record { ref_ptr = (0, 0); now = [] }) c.in-len1-up.len_at_least in
-    (
+    let first = length_first c.args.parts.now (record { ref_ptr = (0, 0); now = [] }) c.in-len1-up.len_at_least in (
       omega (arith, c.decreases, us, length-drop 1 c.args.parts.now, c.in-len1-up.len_at_least),
       omega (arith, c.requires, first, c.split_at_mut-front.ensures.back_len),
     )
