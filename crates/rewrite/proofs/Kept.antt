@@ -3,44 +3,39 @@ use Rattle.std.proofs.Common.{◌≡◌, ℕ, ◌-◌, ◌<◌, ◌≤◌, true,
 use Rattle.std.specs.List.{slice_range}
 use Rattle.std.proofs.lemmas.List.{append-nil, length-take-le, take_at}
 use Rattle.std.proofs.lemmas.Bool.{and_parts}
-use Rattle.query.specs.Query.{select, project, cells}
+use Rattle.query.specs.Query as query
+use Rattle.query.specs.Query.{same, is, below, select, project, cells}
 use Rattle.query.specs.Operators.{Sign, test_of, test_fits, all_below, change_width}
 use Rattle.query.specs.declared.operator.Operator.TheVariants.{One}
 use Rattle.query.specs.declared.operator.Change.TheVariants.{Select, Project}
 use Rattle.query.specs.declared.operator.Test.{Test}
-use Rattle.query.specs.declared.operator.Test.TheVariants.{Same, Is, Below}
-use Rattle.query.proofs.Steps.{differ, project_four, select_fits, project_fits}
+use Rattle.query.proofs.Steps.{project_four, select_fits, project_fits}
 use Rattle.query.proofs.Columns.{column_within}
 use Rattle.query.proofs.Keeping.{length_cells}
 use Rattle.provenance.specs.Rewriting.{through}
 use Rattle.rewrite.specs.declared.Step.TheVariants.{TestBelowProjection, JoinProjections}
-use Rattle.rewrite.specs.Rewritten.{turned}
-use Rattle.rewrite.specs.Written.{changing, Begun, Projects, Puts, Turns}
+use Rattle.rewrite.specs.Rewritten.{within, turned}
+use Rattle.rewrite.specs.Written.{changing, Begun, Puts, Turns}
 use Rattle.rewrite.proofs.Forms.{one_inside}
 use Rattle.rewrite.proofs.Fronts.{Cannot}
-use Rattle.rewrite.proofs.Turning.{no_project, not_turned, made}
-use Rattle.rewrite.proofs.Moved.{select_some}
+use Rattle.rewrite.proofs.Turning.{made}
+use Rattle.rewrite.proofs.Moved.{select_some, within_is_fits}
 
 project_some : (n : ℕ) (cs : List ℕ) (v w : ℕ) → 1 ≤ n → n ≤ 4 → all_below v (take n cs) ≡ true → w ≡ n → Some w ≡ change_width (Project n cs) v
 project_some n cs v w a b e f = rw (le-leb 1 n a, le-leb n 4 b, e) (ap Some f)
 
 -- a test of columns that are there is a test of columns that are there
+within_through : (t : query.Test) (cs : List ℕ) (v : ℕ) → within (length cs) t ≡ true → all_below v cs ≡ true → within v (through cs t) ≡ true
+within_through (same a b) cs v h k =
+    let i = and_parts (ltb a (length cs)) (ltb b (length cs)) h in
+    rw (lt-ltb (get_or cs a 0) v (column_within v cs a k (ltb-true a (length cs) i.0)), lt-ltb (get_or cs b 0) v (column_within v cs b k (ltb-true b (length cs) i.1))) refl
+within_through (is a n) cs v h k = lt-ltb (get_or cs a 0) v (column_within v cs a k (ltb-true a (length cs) h))
+within_through (below a n) cs v h k = lt-ltb (get_or cs a 0) v (column_within v cs a k (ltb-true a (length cs) h))
+
 through_fits : (c d : Test) (cs : List ℕ) (v : ℕ) → test_fits c (length cs) ≡ true → all_below v cs ≡ true → test_of d ≡ through cs (test_of c) →
     test_fits d v ≡ true
-through_fits (Same a b) (Same a' b') cs v h k e =
-    let p : a' ≡ get_or cs a 0 = cc in let r : b' ≡ get_or cs b 0 = cc in
-    let i = and_parts (ltb a (length cs)) (ltb b (length cs)) h in
-    rw (p, r, lt-ltb (get_or cs a 0) v (column_within v cs a k (ltb-true a (length cs) i.0)), lt-ltb (get_or cs b 0) v (column_within v cs b k (ltb-true b (length cs) i.1)))
-through_fits (Is a n) (Is a' n') cs v h k e =
-    let p : a' ≡ get_or cs a 0 = cc in rw (p, lt-ltb (get_or cs a 0) v (column_within v cs a k (ltb-true a (length cs) h)))
-through_fits (Below a n) (Below a' n') cs v h k e =
-    let p : a' ≡ get_or cs a 0 = cc in rw (p, lt-ltb (get_or cs a 0) v (column_within v cs a k (ltb-true a (length cs) h)))
-through_fits (Same a b) (Is a' n') cs v h k e = absurd (differ cc)
-through_fits (Same a b) (Below a' n') cs v h k e = absurd (differ cc)
-through_fits (Is a n) (Same a' b') cs v h k e = absurd (differ cc)
-through_fits (Is a n) (Below a' n') cs v h k e = absurd (differ cc)
-through_fits (Below a n) (Same a' b') cs v h k e = absurd (differ cc)
-through_fits (Below a n) (Is a' n') cs v h k e = absurd (differ cc)
+through_fits c d cs v h k e =
+    sym (within_is_fits d v) ∙ ap (within v) e ∙ within_through (test_of c) cs v (within_is_fits c (length cs) ∙ h) k
 
 -- columns of columns that are there are there
 cells_below : (v : ℕ) (ds cs : List ℕ) → all_below v cs ≡ true → all_below (length cs) ds ≡ true → all_below v (cells ds cs) ≡ true
@@ -64,17 +59,6 @@ kept_long : (six : List ℕ) (n : ℕ) (cs : List ℕ) → Sign six (One (Projec
 kept_long six n cs s h = length-take-le n cs (omega (arith, project_four six n cs s.is))
 
 module _ {ws : List ℕ} (before : List ℕ) {at : List ℕ} (was : List ℕ) {six rest : List ℕ} where
-  pub no_projection_below : {c : Test} → Begun at (One (Select c)) six rest → Projects rest None → Turns ws TestBelowProjection before at was was None
-  no_projection_below {c} b n xs q w after s e =
-      let k = one_inside ws at six rest after (Select c) b s e in
-      not_turned ws TestBelowProjection before q w after was (ap (turned ws TestBelowProjection) k.is ∙ no_project rest after n k.written k.parts _)
-
-  pub no_second_projection : {n : ℕ} {ds : List ℕ} → Begun at (One (Project n ds)) six rest → Projects rest None →
-      Turns ws JoinProjections before at was was None
-  no_second_projection {n} {ds} b none xs q w after s e =
-      let k = one_inside ws at six rest after (Project n ds) b s e in
-      not_turned ws JoinProjections before q w after was (ap (turned ws JoinProjections) k.is ∙ no_project rest after none k.written k.parts _)
-
   pub test_below_projection_made : (now : List ℕ) (r : Option ℕ) {c d : Test} {n : ℕ} {cs six₂ rest₂ six₃ : List ℕ} → Begun at (One (Select c)) six rest →
       Begun rest (One (Project n cs)) six₂ rest₂ → Sign six₃ (One (Select d)) → test_of d ≡ through (take n cs) (test_of c) →
       Puts (before ++ (six₂ ++ (six₃ ++ (rest₂ ++ [])))) was now r → Turns ws TestBelowProjection before at was now r

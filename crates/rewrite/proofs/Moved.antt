@@ -3,22 +3,24 @@ use Rattle.std.proofs.Common.{◌≡◌, ℕ, ◌+◌, ◌-◌, true, false, Lis
 use Rattle.std.proofs.lemmas.List.{append-nil}
 use Rattle.std.proofs.lemmas.Bool.Decides.{nat_tests}
 use Rattle.tables.specs.Bool.{pick}
-use Rattle.query.specs.Query.{select, product, union}
-use Rattle.query.specs.Operators.{Sign, test_of, test_fits, change_width}
+use Rattle.query.specs.Query as query
+use Rattle.query.specs.Query.{same, is, below, select, product, union}
+use Rattle.query.specs.Operators.{Sign, test_of, test_fits, change_width, changed}
 use Rattle.query.specs.declared.operator.Operator.TheVariants.{One, Two}
 use Rattle.query.specs.declared.operator.Change.{Change}
 use Rattle.query.specs.declared.operator.Change.TheVariants.{Select}
 use Rattle.query.specs.declared.operator.Pairing.TheVariants.{Product, Union}
 use Rattle.query.specs.declared.operator.Test.{Test}
 use Rattle.query.specs.declared.operator.Test.TheVariants.{Same, Is, Below}
-use Rattle.query.proofs.Steps.{differ, select_fits, product_fits, union_fits}
+use Rattle.query.proofs.Steps.{select_fits, product_fits, union_fits}
+use Rattle.rewrite.specs.declared.Step.{Step}
 use Rattle.rewrite.specs.declared.Step.TheVariants.{SwapTests, TestIntoLeft, TestIntoRight, TestIntoUnion}
 use Rattle.rewrite.specs.declared.signs.Inner.{Inner}
 use Rattle.rewrite.specs.Rewritten.{turned, width, within, behind, earlier}
-use Rattle.rewrite.specs.Written.{changing, pairing, Begun, Selects, Pairs, Puts, Turns}
+use Rattle.rewrite.specs.Written.{changing, pairing, Begun, Puts, Turns}
 use Rattle.rewrite.proofs.Forms.{one_inside, two_inside, written_width}
 use Rattle.rewrite.proofs.Fronts.{Cannot}
-use Rattle.rewrite.proofs.Turning.{no_test, no_product, no_union, not_turned, made}
+use Rattle.rewrite.proofs.Turning.{Unmade, not_turned, made}
 use Rattle.rewrite.proofs.Pairs.{product_some, union_some, Ends}
 
 pub select_some : (c : Test) (v w : ℕ) → test_fits c v ≡ true → w ≡ v → Some w ≡ change_width (Select c) v
@@ -30,46 +32,29 @@ within_is_fits (Same a b) v = refl
 within_is_fits (Is a n) v = refl
 within_is_fits (Below a n) v = refl
 
--- a test that fits a product, and reads only behind its left side, fits the right side
+-- a test of the columns of a product that reads only those behind its left side is a test of the columns of its right side
+within_earlier : (t : query.Test) (u v : ℕ) → within (u + v) t ≡ true → behind u t ≡ true → within v (earlier u t) ≡ true
+within_earlier (same a b) u v h k = grind (arith, nat_tests)
+within_earlier (is a n) u v h k = grind (arith, nat_tests)
+within_earlier (below a n) u v h k = grind (arith, nat_tests)
+
 behind_fits : (c d : Test) (u v : ℕ) → test_fits c (u + v) ≡ true → behind u (test_of c) ≡ true → test_of d ≡ earlier u (test_of c) → test_fits d v ≡ true
-behind_fits (Same a b) (Same a' b') u v h k e =
-    let p : a' ≡ a - u = cc in let r : b' ≡ b - u = cc in rw (p, r) (grind (arith, nat_tests))
-behind_fits (Is a n) (Is a' n') u v h k e = let p : a' ≡ a - u = cc in rw p (grind (arith, nat_tests))
-behind_fits (Below a n) (Below a' n') u v h k e = let p : a' ≡ a - u = cc in rw p (grind (arith, nat_tests))
-behind_fits (Same a b) (Is a' n') u v h k e = absurd (differ cc)
-behind_fits (Same a b) (Below a' n') u v h k e = absurd (differ cc)
-behind_fits (Is a n) (Same a' b') u v h k e = absurd (differ cc)
-behind_fits (Is a n) (Below a' n') u v h k e = absurd (differ cc)
-behind_fits (Below a n) (Same a' b') u v h k e = absurd (differ cc)
-behind_fits (Below a n) (Is a' n') u v h k e = absurd (differ cc)
+behind_fits c d u v h k e =
+    sym (within_is_fits d v) ∙ ap (within v) e ∙ within_earlier (test_of c) u v (within_is_fits c (u + v) ∙ h) k
 
 -- what a test needs is there
 pub below_there : {ws at six rest : List ℕ} {c : Change} → Begun at (One c) six rest → Cannot ws rest → Cannot ws at
 below_there {ws} {at} {six} {rest} {c} b n xs q w after s e =
     let k = one_inside ws at six rest after c b s e in n k.signs k.inner k.from after k.written k.parts
 
+-- where a step makes nothing of one query below an operator, it makes nothing of the whole
+pub below_unturned : {ws before at was six rest : List ℕ} {s : Step} {c : Change} → Begun at (One c) six rest →
+    Unmade ws rest (λ q. turned ws s (changed c q)) → Turns ws s before at was was None
+below_unturned {ws} {before} {at} {was} {six} {rest} {s} {c} b f xs q w after t e =
+    let k = one_inside ws at six rest after c b t e in
+    not_turned ws s before q w after was (ap (turned ws s) k.is ∙ f k.signs k.inner k.from after k.written k.parts)
+
 module _ {ws : List ℕ} (before : List ℕ) {at : List ℕ} (was : List ℕ) {six rest : List ℕ} {c : Test} (b : Begun at (One (Select c)) six rest) where
-  -- what is below the test is of another form
-  pub no_test_below : Selects rest None → Turns ws SwapTests before at was was None
-  no_test_below n xs q w after s e =
-      let k = one_inside ws at six rest after (Select c) b s e in
-      not_turned ws SwapTests before q w after was (ap (turned ws SwapTests) k.is ∙ no_test rest after n k.written k.parts _)
-
-  pub no_product_for_left : Pairs rest Product None → Turns ws TestIntoLeft before at was was None
-  no_product_for_left n xs q w after s e =
-      let k = one_inside ws at six rest after (Select c) b s e in
-      not_turned ws TestIntoLeft before q w after was (ap (turned ws TestIntoLeft) k.is ∙ no_product rest after n k.written k.parts _)
-
-  pub no_product_for_right : Pairs rest Product None → Turns ws TestIntoRight before at was was None
-  no_product_for_right n xs q w after s e =
-      let k = one_inside ws at six rest after (Select c) b s e in
-      not_turned ws TestIntoRight before q w after was (ap (turned ws TestIntoRight) k.is ∙ no_product rest after n k.written k.parts _)
-
-  pub no_union_below : Pairs rest Union None → Turns ws TestIntoUnion before at was was None
-  no_union_below n xs q w after s e =
-      let k = one_inside ws at six rest after (Select c) b s e in
-      not_turned ws TestIntoUnion before q w after was (ap (turned ws TestIntoUnion) k.is ∙ no_union rest after n k.written k.parts _)
-
   pub swap_tests_made : (now : List ℕ) (r : Option ℕ) {d : Test} {six₂ rest₂ : List ℕ} → Begun rest (One (Select d)) six₂ rest₂ →
       Puts (before ++ (six₂ ++ (six ++ (rest₂ ++ [])))) was now r → Turns ws SwapTests before at was now r
   swap_tests_made now r {d} {six₂} {rest₂} b₂ put xs q w after s e =

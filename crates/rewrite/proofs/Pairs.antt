@@ -2,18 +2,19 @@
 use Rattle.std.proofs.Common.{◌≡◌, ℕ, ◌+◌, ◌≤◌, List, [], ◌++◌, Some, None, Option, sym, refl, ap, ◌∙◌, append_assoc, arith, eq-eqb, le-leb}
 use Rattle.std.proofs.lemmas.List.{append-nil}
 use Rattle.query.specs.Query.{Query, product, union}
-use Rattle.query.specs.Operators.{pair_width}
+use Rattle.query.specs.Operators.{pair_width, paired}
 use Rattle.query.specs.declared.operator.Operator.TheVariants.{Two}
 use Rattle.query.specs.declared.operator.Pairing.{Pairing}
 use Rattle.query.specs.declared.operator.Pairing.TheVariants.{Product, Union}
 use Rattle.query.proofs.Steps.{product_fits, union_fits}
+use Rattle.rewrite.specs.declared.Step.{Step}
 use Rattle.rewrite.specs.declared.Step.TheVariants.{UnionOutOfLeft, UnionOutOfRight, RegroupLeft, RegroupRight, SwapUnion}
 use Rattle.rewrite.specs.declared.signs.Inner.{Inner}
 use Rattle.rewrite.specs.Rewritten.{turned}
-use Rattle.rewrite.specs.Written.{pairing, Begun, Pairs, Takes, Puts, Turns}
+use Rattle.rewrite.specs.Written.{pairing, Begun, Takes, Puts, Turns}
 use Rattle.rewrite.proofs.Forms.{two_inside}
 use Rattle.rewrite.proofs.Fronts.{Cannot}
-use Rattle.rewrite.proofs.Turning.{no_product, no_union, not_turned, made}
+use Rattle.rewrite.proofs.Turning.{Unmade, not_turned, made}
 
 pub product_some : (a b w : ℕ) → w ≡ a + b → w ≤ 8 → Some w ≡ pair_width Product a b
 product_some a b w e h = let k : a + b ≤ 8 = omega arith in rw (le-leb (a + b) 8 k) (ap Some e)
@@ -47,6 +48,20 @@ module _ {ws at six rest : List ℕ} {j : Pairing} (b : Begun at (Two j) six res
       let m = g k₂.right_signs k₂.right k₂.right_width _ k₂.right_written l.rest in
       n k.right_signs k.right k.right_width after k.right_written m.rest
 
+-- where a step makes nothing of any query with what stands on one side, it makes nothing of the whole
+module _ {ws before at was six rest : List ℕ} {s : Step} {j : Pairing} (b : Begun at (Two j) six rest) where
+  pub left_unturned : ((r : Query) → Unmade ws rest (λ l. turned ws s (paired j l r))) → Turns ws s before at was was None
+  left_unturned f xs q w after t e =
+      let k = two_inside ws at six rest after j b t e in
+      not_turned ws s before q w after was (ap (turned ws s) k.is ∙ f k.right k.left_signs k.left k.left_width _ k.left_written k.parts)
+
+  pub right_unturned : {x : Inner} → Ends ws rest x → ((l : Query) → Unmade ws x.rest.now (λ r. turned ws s (paired j l r))) →
+      Turns ws s before at was was None
+  right_unturned g f xs q w after t e =
+      let k = two_inside ws at six rest after j b t e in
+      let l = g k.left_signs k.left k.left_width _ k.left_written k.parts in
+      not_turned ws s before q w after was (ap (turned ws s) k.is ∙ f k.left k.right_signs k.right k.right_width after k.right_written l.rest)
+
 module _ {ws : List ℕ} (before : List ℕ) {at : List ℕ} (was : List ℕ) where
   pub swap_union_made : (now : List ℕ) (r : Option ℕ) {six rest : List ℕ} {x y : Inner} → Begun at (Two Union) six rest → Ends ws rest x → Ends ws x.rest.now y →
       Puts (before ++ (six ++ (y.signs.now ++ (x.signs.now ++ (y.rest.now ++ []))))) was now r → Turns ws SwapUnion before at was now r
@@ -64,20 +79,6 @@ module _ {ws : List ℕ} (before : List ℕ) {at : List ℕ} (was : List ℕ) wh
 
   -- a product with a product on its right
   module _ {six rest : List ℕ} {x : Inner} (b : Begun at (Two Product) six rest) (f : Ends ws rest x) where
-    pub no_right_product : Pairs x.rest.now Product None → Turns ws RegroupLeft before at was was None
-    no_right_product n xs q w after s e =
-        let k = two_inside ws at six rest after Product b s e in
-        let l = f k.left_signs k.left k.left_width _ k.left_written k.parts in
-        not_turned ws RegroupLeft before q w after was
-        (ap (turned ws RegroupLeft) k.is ∙ no_product x.rest.now after n k.right_written l.rest _)
-
-    pub no_right_union : Pairs x.rest.now Union None → Turns ws UnionOutOfRight before at was was None
-    no_right_union n xs q w after s e =
-        let k = two_inside ws at six rest after Product b s e in
-        let l = f k.left_signs k.left k.left_width _ k.left_written k.parts in
-        not_turned ws UnionOutOfRight before q w after was
-        (ap (turned ws UnionOutOfRight) k.is ∙ no_union x.rest.now after n k.right_written l.rest _)
-
     module _ (now : List ℕ) (r : Option ℕ) {six₂ rest₂ : List ℕ} where
       pub regroup_left_made : Begun x.rest.now (Two Product) six₂ rest₂ →
           Puts (before ++ (six ++ (six₂ ++ (x.signs.now ++ (rest₂ ++ []))))) was now r → Turns ws RegroupLeft before at was now r
@@ -122,18 +123,6 @@ module _ {ws : List ℕ} (before : List ℕ) {at : List ℕ} (was : List ℕ) wh
 
   -- a product with a product, or a union, on its left
   module _ {six rest : List ℕ} (b : Begun at (Two Product) six rest) where
-    pub no_left_product : Pairs rest Product None → Turns ws RegroupRight before at was was None
-    no_left_product n xs q w after s e =
-        let k = two_inside ws at six rest after Product b s e in
-        not_turned ws RegroupRight before q w after was
-        (ap (turned ws RegroupRight) k.is ∙ no_product rest (k.right_signs ++ after) n k.left_written k.parts _)
-
-    pub no_left_union : Pairs rest Union None → Turns ws UnionOutOfLeft before at was was None
-    no_left_union n xs q w after s e =
-        let k = two_inside ws at six rest after Product b s e in
-        not_turned ws UnionOutOfLeft before q w after was
-        (ap (turned ws UnionOutOfLeft) k.is ∙ no_union rest (k.right_signs ++ after) n k.left_written k.parts _)
-
     pub regroup_right_made : (now : List ℕ) (r : Option ℕ) {six₂ rest₂ : List ℕ} {x : Inner} → Begun rest (Two Product) six₂ rest₂ → Ends ws rest₂ x →
         Puts (before ++ (six ++ (x.signs.now ++ (six₂ ++ (x.rest.now ++ []))))) was now r → Turns ws RegroupRight before at was now r
     regroup_right_made now r {six₂} {rest₂} {x} b₂ f put xs q w after s e =

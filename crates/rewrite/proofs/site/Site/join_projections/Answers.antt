@@ -1,16 +1,16 @@
 use Rattle.std.proofs.Common.{[], ◌∷◌, ◌++◌, length, drop, ◌∙◌, ap₂, arith}
 use Rattle.query.specs.Query.{cells}
 use Rattle.rewrite.specs.Written.{together}
-use Rattle.rewrite.proofs.Turning.{no_project, not_turned, not_there}
-use Rattle.rewrite.proofs.Moved.{below_there}
-use Rattle.rewrite.proofs.Kept.{few_kept, range_front, no_second_projection, join_projections_made}
+use Rattle.rewrite.proofs.Turning.{no_project, unturned, not_there}
+use Rattle.rewrite.proofs.Moved.{below_there, below_unturned}
+use Rattle.rewrite.proofs.Kept.{few_kept, range_front, join_projections_made}
 use Rattle.rewrite.proofs.site.Site.join_projections.Goals as goal
 
 pub returns-in_err-outer : goal.returns-in_err-outer
-returns-in_err-outer c = rw c.from_residual.ensures (λ xs q w after s e. not_turned _ _ _ q w after _ (no_project _ after c.in_err-outer.ensures s e _))
+returns-in_err-outer c = rw c.from_residual.ensures (unturned (no_project c.in_err-outer.ensures _))
 
 pub returns-in_err-inner : goal.returns-in_err-inner
-returns-in_err-inner c = rw c.from_residual-in_err-inner.ensures (no_second_projection _ _ c.in_ok-outer.ensures c.in_err-inner.ensures)
+returns-in_err-inner c = rw c.from_residual-in_err-inner.ensures (below_unturned c.in_ok-outer.ensures (no_project c.in_err-inner.ensures _))
 
 pub returns-in_err-get : goal.returns-in_err-get
 returns-in_err-get c = rw c.from_residual-in_err-get.ensures (not_there (few_kept c.in_ok-outer.ensures (omega (arith, c.in_err-get.ensures.lookup))))

@@ -1,10 +1,10 @@
 use Rattle.rewrite.specs.Written.{together}
-use Rattle.rewrite.proofs.Turning.{no_union, not_turned, not_there}
+use Rattle.rewrite.proofs.Turning.{no_union, unturned, not_there}
 use Rattle.rewrite.proofs.Pairs.{left_there, right_there, swap_union_made}
 use Rattle.rewrite.proofs.site.Site.swap_union.Goals as goal
 
 pub returns-in_err-union : goal.returns-in_err-union
-returns-in_err-union c = rw c.from_residual.ensures (λ xs q w after s e. not_turned _ _ _ q w after _ (no_union _ after c.in_err-union.ensures s e _))
+returns-in_err-union c = rw c.from_residual.ensures (unturned (no_union c.in_err-union.ensures _))
 
 pub returns-in_err-left : goal.returns-in_err-left
 returns-in_err-left c = rw c.from_residual-in_err-left.ensures (not_there (left_there c.in_ok-union.ensures c.in_err-left.ensures))

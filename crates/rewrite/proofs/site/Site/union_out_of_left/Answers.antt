@@ -1,13 +1,13 @@
 use Rattle.rewrite.specs.Written.{together}
-use Rattle.rewrite.proofs.Turning.{no_product, not_turned, not_there}
-use Rattle.rewrite.proofs.Pairs.{left_there, right_there, third_there, no_left_union, union_out_of_left_made}
+use Rattle.rewrite.proofs.Turning.{no_product, no_union, unturned, not_there}
+use Rattle.rewrite.proofs.Pairs.{left_there, right_there, third_there, left_unturned, union_out_of_left_made}
 use Rattle.rewrite.proofs.site.Site.union_out_of_left.Goals as goal
 
 pub returns-in_err-product : goal.returns-in_err-product
-returns-in_err-product c = rw c.from_residual.ensures (λ xs q w after s e. not_turned _ _ _ q w after _ (no_product _ after c.in_err-product.ensures s e _))
+returns-in_err-product c = rw c.from_residual.ensures (unturned (no_product c.in_err-product.ensures _))
 
 pub returns-in_err-union : goal.returns-in_err-union
-returns-in_err-union c = rw c.from_residual-in_err-union.ensures (no_left_union _ _ c.in_ok-product.ensures c.in_err-union.ensures)
+returns-in_err-union c = rw c.from_residual-in_err-union.ensures (left_unturned c.in_ok-product.ensures (λ r. no_union c.in_err-union.ensures _))
 
 pub returns-in_err-left : goal.returns-in_err-left
 returns-in_err-left c = rw c.from_residual-in_err-left.ensures (not_there (left_there c.in_ok-product.ensures (left_there c.in_ok-union.ensures c.in_err-left.ensures)))
