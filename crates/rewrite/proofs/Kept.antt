@@ -1,6 +1,5 @@
 -- What the steps on projections write. Assumes nothing.
 use Rattle.std.proofs.Common.{◌≡◌, ℕ, ◌-◌, ◌<◌, ◌≤◌, true, ltb, List, [], ◌∷◌, ◌++◌, length, get_or, take, Some, None, Option, sym, refl, ap, ◌∙◌, ap₂, append_assoc, arith, ltb-true, lt-ltb, le-leb}
-use Rattle.std.specs.List.{slice_range}
 use Rattle.std.proofs.lemmas.List.{append-nil, length-take-le, take_at}
 use Rattle.std.proofs.lemmas.Bool.{and_parts}
 use Rattle.query.specs.Query as query
@@ -50,10 +49,6 @@ pub few_kept : {ws at six rest : List ℕ} {n : ℕ} {cs : List ℕ} → Begun a
 few_kept {ws} {at} {six} {rest} {n} {cs} b h xs q w after s e =
     let k = one_inside ws at six rest after (Project n cs) b s e in
     let p = project_fits n cs k.from w k.fits in omega (arith, p.few, project_four six n cs b.sign.is)
-
--- the part from 0 on
-pub range_front : (n : ℕ) (cs : List ℕ) → slice_range cs 0 n ≡ take n cs
-range_front n cs = let e : n - 0 ≡ n = omega arith in ap (λ k. take k cs) e
 
 kept_long : (six : List ℕ) (n : ℕ) (cs : List ℕ) → Sign six (One (Project n cs)) → n ≤ 4 → length (take n cs) ≡ n
 kept_long six n cs s h = length-take-le n cs (omega (arith, project_four six n cs s.is))

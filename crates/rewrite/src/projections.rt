@@ -15,7 +15,7 @@ impl<'a> Site<'a> {
     {
         let selected = select_at(self.at)?;
         let projected = project_at(selected.rest)?;
-        let columns = projected.columns.get(..projected.kept as usize)?;
+        let columns = projected.kept_columns()?;
         let test = test_through(selected.test, columns);
         let moved = <[u64; SIGNS]>::from(Operator::One(Change::Select(test)));
         put(&[self.before, projected.sign, &moved, projected.rest], into)
@@ -28,11 +28,7 @@ impl<'a> Site<'a> {
         let outer = project_at(self.at)?;
         let inner = project_at(outer.rest)?;
         let mut columns = [0; 4];
-        keep_cells(
-            outer.columns.get(..outer.kept as usize)?,
-            inner.columns.get(..inner.kept as usize)?,
-            &mut columns,
-        );
+        keep_cells(outer.kept_columns()?, inner.kept_columns()?, &mut columns);
         let joined = <[u64; SIGNS]>::from(Operator::One(Change::Project(outer.kept, columns)));
         put(&[self.before, &joined, inner.rest], into)
     }

@@ -1,4 +1,5 @@
 //! The operators and queries at the front of some signs.
+ghost use Rattle.std.specs.Prelude.{◌≡◌, ◌<◌, length, take, MatchOption};
 ghost use Rattle.tables.specs.Tables.{widths_in};
 ghost use Rattle.rewrite.specs.Written.{Selects, Projects, Pairs, Takes};
 
@@ -23,6 +24,15 @@ pub struct Projected<'a> {
     pub rest: &'a [u64],
 }
 
+impl Projected<'_> {
+    /// The columns that the projection keeps, if it has so many.
+    pub fn kept_columns(&self) -> Option<&[u64]>
+        ensures { MatchOption result (length self.now.columns < self.now.kept) (λ x. x.now ≡ take self.now.kept self.now.columns) }
+    {
+        self.columns.get(..self.kept as usize)
+    }
+}
+
 /// A product or a union: its own signs, and the signs after it.
 #[derive(Clone, Copy)]
 pub struct Paired<'a> {
@@ -39,6 +49,7 @@ pub struct Inner<'a> {
 }
 
 /// The selection at the front of `signs`, if one stands there.
+// This and the two functions below differ in the pattern that they match; one that took the pattern as a closure would be no plainer.
 pub fn select_at(signs: &[u64]) -> Option<Selected<'_>>
     ensures { Selects signs.now result }
 {

@@ -1,10 +1,10 @@
-use Rattle.std.proofs.Common.{ap, ◌∙◌, arith}
+use Rattle.std.proofs.Common.{ap, ◌∙◌}
 use Rattle.provenance.specs.Rewriting.{through}
 use Rattle.query.specs.Operators.{test_of}
 use Rattle.rewrite.specs.Written.{together}
 use Rattle.rewrite.proofs.Turning.{no_test, no_project, unturned, not_there}
 use Rattle.rewrite.proofs.Moved.{below_there, below_unturned}
-use Rattle.rewrite.proofs.Kept.{few_kept, range_front, test_below_projection_made}
+use Rattle.rewrite.proofs.Kept.{few_kept, test_below_projection_made}
 use Rattle.rewrite.proofs.site.Site.test_below_projection.Goals as goal
 
 pub returns-in_err-selected : goal.returns-in_err-selected
@@ -14,11 +14,10 @@ pub returns-in_err-projected : goal.returns-in_err-projected
 returns-in_err-projected c = rw c.from_residual-in_err-projected.ensures (below_unturned c.in_ok-selected.ensures (no_project c.in_err-projected.ensures _))
 
 pub returns-in_err-columns : goal.returns-in_err-columns
-returns-in_err-columns c = rw c.from_residual-in_err-columns.ensures (not_there (below_there c.in_ok-selected.ensures (few_kept c.in_ok-projected.ensures (omega (arith, c.in_err-columns.ensures.lookup)))))
+returns-in_err-columns c = rw c.from_residual-in_err-columns.ensures (not_there (below_there c.in_ok-selected.ensures (few_kept c.in_ok-projected.ensures c.in_err-columns.ensures)))
 
 pub returns : goal.returns
 unfolding together
 returns c =
-    let columns = c.in_ok-columns.ensures.lookup.0.2 ∙ range_front c.in_ok-projected.projected.kept c.in_ok-projected.projected.columns in
     test_below_projection_made _ _ _ _ c.in_ok-selected.ensures c.in_ok-projected.ensures c.from-moved.ensures
-    (c.test_through-test.ensures ∙ ap (λ cs. through cs (test_of c.in_ok-selected.selected.test)) columns) c.put.ensures
+    (c.test_through-test.ensures ∙ ap (λ cs. through cs (test_of c.in_ok-selected.selected.test)) c.in_ok-columns.ensures) c.put.ensures
