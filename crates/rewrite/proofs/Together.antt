@@ -1,8 +1,6 @@
 -- Parts one behind another. Assumes nothing.
 use Rattle.std.proofs.Common.{◌≡◌, ℕ, ◌+◌, ◌-◌, ◌<◌, ◌≤◌, List, [], ◌∷◌, ◌++◌, length, get_or, take, drop, sym, refl, ap, ◌∙◌, append_assoc, arith, Bor}
-use Rattle.std.proofs.lemmas.List.{append-nil, length-append, length-drop, at_drop_more, at_drop_all, take_more, take_at, take_all, drop_at, drop-drop}
-use Rattle.std.proofs.lemmas.Slice.{put_mid-paste}
-use borrow.Rule.Slice.PartMut.{put_mid}
+use Rattle.std.proofs.lemmas.List.{length-append, length-drop, at_drop_more, at_drop_all, take_all, drop-drop}
 use Rattle.rewrite.specs.Written.{together}
 
 module _ (ps : List (Bor (List ℕ))) where

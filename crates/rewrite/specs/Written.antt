@@ -9,7 +9,6 @@ use Rattle.query.specs.declared.operator.Operator.TheVariants.{Scan, One, Two}
 use Rattle.query.specs.declared.operator.Change.{Change}
 use Rattle.query.specs.declared.operator.Change.TheVariants.{Select, Project}
 use Rattle.query.specs.declared.operator.Pairing.{Pairing}
-use Rattle.query.specs.declared.operator.Pairing.TheVariants.{Product, Union}
 use Rattle.query.specs.declared.operator.Test.{Test}
 use Rattle.query.specs.declared.operator.Test.TheVariants.{Same, Is, Below}
 use Rattle.rewrite.specs.declared.Step.{Step}

@@ -7,6 +7,7 @@ use query::{Change, Operator, Pairing, Reading, SIGNS, Test, next_operator, read
 use tables::Tables;
 
 /// A selection: its own signs, its test, and the signs after it.
+// This and the two structs below share two fields; in a generic one `selected.test` would be a field for anything, and no plainer.
 #[derive(Clone, Copy)]
 pub struct Selected<'a> {
     pub sign: &'a [u64],

@@ -1,6 +1,5 @@
-use Rattle.std.proofs.Common.{[], refl, length, drop, ap, arith}
+use Rattle.std.proofs.Common.{[], refl, length, ap, arith}
 use Rattle.std.proofs.lemmas.List.{length-drop}
-use Rattle.rewrite.specs.Written.{together}
 use Rattle.rewrite.proofs.Together.{others, together_none, length_first, written_behind}
 use Rattle.rewrite.proofs.write.+copy.Goals as goal
 
