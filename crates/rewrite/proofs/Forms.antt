@@ -61,18 +61,6 @@ pub record InsideTwo (ws : List ℕ) (j : Pairing) (q : Query) (w : ℕ) (rest a
   pub parts : rest ≡ left_signs ++ (right_signs ++ after)
 
 module _ (ws at six rest after : List ℕ) where
-  pub scan_inside : (t : ℕ) {xs : List ℕ} {q : Query} {w : ℕ} → Begun at (Scan t) six rest → Written ws xs q w → at ≡ xs ++ after →
-      (t < length ws) × (w ≡ get_or ws t 0) × (xs ≡ six) × (rest ≡ after)
-  scan_inside t b (scanned {six = six'} t' s h) e =
-      let k = same_sign at six rest six' after (Scan t) (Scan t') b s e in
-      let same : t' ≡ t = cc in
-      let f = same_front six' six after rest (s.long ∙ sym b.sign.long) (sym e ∙ b.parts) in
-      (subst (λ (t : ℕ). t < length ws) same h, ap (λ t. get_or ws t 0) same, f.0, k.1)
-  scan_inside t b (changing {six = six'} {xs = xs} c s g i) e =
-      let k = same_sign at six rest six' (xs ++ after) (Scan t) (One c) b s (e ∙ append_assoc six' xs after) in absurd (differ cc)
-  scan_inside t b (pairing {six = six'} {xs = xs} {ys = ys} j s g l r) e =
-      let k = same_sign at six rest six' ((xs ++ ys) ++ after) (Scan t) (Two j) b s (e ∙ append_assoc six' (xs ++ ys) after) in absurd (differ cc)
-
   pub one_inside : (c : Change) {xs : List ℕ} {q : Query} {w : ℕ} → Begun at (One c) six rest → Written ws xs q w → at ≡ xs ++ after →
       InsideOne ws c q w rest after
   one_inside c b (scanned {six = six'} t' s h) e =

@@ -7,11 +7,9 @@ module _ (ps : List (Bor (List ℕ))) where
   -- what is left, one part on
   pub left_more : (i : ℕ) (d : Bor (List ℕ)) → i < length ps →
       length (together (drop i ps)) ≡ length (get_or ps i d).now + length (together (drop (i + 1) ps))
-  unfolding together
   left_more i d h = at_drop_more (λ xs. length (together xs)) ps i d h ∙ length-append (get_or ps i d).now (together (drop (i + 1) ps))
 
   pub left_all : (i : ℕ) → length ps ≤ i → length (together (drop i ps)) ≡ 0
-  unfolding together
   left_all i h = at_drop_all (λ xs. length (together xs)) ps i h
 
 -- the first part, and those after it
@@ -19,13 +17,11 @@ pub others : {A : Type 0} (ps : List A) → take (length ps - 1) (drop 1 ps) ≡
 others ps = take_all (length ps - 1) (drop 1 ps) (omega (arith, length-drop 1 ps))
 
 pub together_none : (ps : List (Bor (List ℕ))) → length ps < 1 → together ps ≡ []
-unfolding together
 together_none [] h = refl
 together_none (p ∷ ps) h = absurd (omega arith)
 
 together_first : (ps : List (Bor (List ℕ))) (d : Bor (List ℕ)) → 1 ≤ length ps →
     together ps ≡ (get_or ps 0 d).now ++ together (take (length ps - 1) (drop 1 ps))
-unfolding together
 together_first [] d h = absurd (omega arith)
 together_first (p ∷ ps) d h = ap (λ us. p.now ++ together us) (sym (others (p ∷ ps)))
 

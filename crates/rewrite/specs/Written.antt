@@ -1,6 +1,7 @@
 -- Queries as the numbers in which they are written, and what is written for a step. Assumes nothing: these are definitions.
 use Rattle.std.specs.Prelude.{◌≡◌, ℕ, ◌+◌, ◌*◌, ◌<◌, ◌≤◌, List, [], ◌∷◌, ◌++◌, length, drop, Some, None, Option, slice_index}
 use Rattle.std.specs.Borrow.{Bor}
+use Rattle.std.specs.List.{flat_map}
 use Rattle.tables.specs.Tables.{widths_in}
 use Rattle.query.specs.Query.{Query, scan}
 use Rattle.query.specs.Operators.{Sign, operator_at, change_width, pair_width, changed, paired}
@@ -66,9 +67,8 @@ Mapped R (Is a n) t = (x : ℕ) × R a x × (t ≡ Is x n)
 Mapped R (Below a n) t = (x : ℕ) × R a x × (t ≡ Below x n)
 
 -- the numbers of some parts, one behind another
-unfoldable pub together : List (Bor (List ℕ)) → List ℕ
-together [] = []
-together (x ∷ xs) = x.now ++ together xs
+abbrev pub together : List (Bor (List ℕ)) → List ℕ
+together xs = flat_map (λ x. x.now) xs
 
 -- there are n numbers, if that is at most the room
 abbrev pub Counts : ℕ → ℕ → Option ℕ → Type 0

@@ -1,6 +1,5 @@
 use Rattle.std.proofs.Common.{[], ◌∷◌, ◌++◌, length, drop, ◌∙◌, ap₂}
 use Rattle.query.specs.Query.{cells}
-use Rattle.rewrite.specs.Written.{together}
 use Rattle.rewrite.proofs.Turning.{no_project, unturned, not_there}
 use Rattle.rewrite.proofs.Moved.{below_there, below_unturned}
 use Rattle.rewrite.proofs.Kept.{few_kept, join_projections_made}
@@ -19,7 +18,6 @@ pub returns-in_err-kept_columns-2 : goal.returns-in_err-kept_columns-2
 returns-in_err-kept_columns-2 c = rw c.from_residual-in_err-kept_columns-2.ensures (not_there (below_there c.in_ok-outer.ensures (few_kept c.in_ok-inner.ensures c.in_err-kept_columns-2.ensures)))
 
 pub returns : goal.returns
-unfolding together
 returns c =
     join_projections_made _ _ _ _ _ c.in_ok-outer.ensures c.in_ok-inner.ensures c.from-joined.ensures
     (c.keep_cells.ensures

@@ -1,4 +1,3 @@
-use Rattle.rewrite.specs.Written.{together}
 use Rattle.rewrite.proofs.Turning.{no_product, unturned, not_there}
 use Rattle.rewrite.proofs.Pairs.{left_there, left_unturned, regroup_right_made}
 use Rattle.rewrite.proofs.site.Site.regroup_right.Goals as goal
@@ -13,5 +12,4 @@ pub returns-in_err-left : goal.returns-in_err-left
 returns-in_err-left c = rw c.from_residual-in_err-left.ensures (not_there (left_there c.in_ok-outer.ensures (left_there c.in_ok-inner.ensures c.in_err-left.ensures)))
 
 pub returns : goal.returns
-unfolding together
 returns c = regroup_right_made _ _ c.in_ok-outer.ensures _ _ c.in_ok-inner.ensures c.in_ok-left.ensures c.put.ensures

@@ -1,4 +1,3 @@
-use Rattle.rewrite.specs.Written.{together}
 use Rattle.rewrite.proofs.Turning.{no_union, unturned, not_there}
 use Rattle.rewrite.proofs.Pairs.{left_there, right_there, swap_union_made}
 use Rattle.rewrite.proofs.site.Site.swap_union.Goals as goal
@@ -13,5 +12,4 @@ pub returns-in_err-right : goal.returns-in_err-right
 returns-in_err-right c = rw c.from_residual-in_err-right.ensures (not_there (right_there c.in_ok-union.ensures c.in_ok-left.ensures c.in_err-right.ensures))
 
 pub returns : goal.returns
-unfolding together
 returns c = swap_union_made _ _ _ _ c.in_ok-union.ensures c.in_ok-left.ensures c.in_ok-right.ensures c.put.ensures

@@ -1,5 +1,4 @@
 use Rattle.std.proofs.Common.{sym}
-use Rattle.rewrite.specs.Written.{together}
 use Rattle.rewrite.proofs.Turning.{no_test, no_product, unturned, not_there}
 use Rattle.rewrite.proofs.Pairs.{left_there}
 use Rattle.rewrite.proofs.Moved.{below_there, below_unturned, not_within, test_into_left_made}
@@ -18,5 +17,4 @@ pub returns-then-not-fits : goal.returns-then-not-fits
 returns-then-not-fits c = not_within _ _ c.in_ok-selected.ensures c.in_ok-product.ensures c.in_ok-left.ensures (sym c.if-not-fits.ensures)
 
 pub returns : goal.returns
-unfolding together
 returns c = test_into_left_made _ _ c.in_ok-selected.ensures c.in_ok-product.ensures c.in_ok-left.ensures _ _ (sym c.if-not-fits.ensures) c.put.ensures

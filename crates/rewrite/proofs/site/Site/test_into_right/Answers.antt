@@ -1,5 +1,4 @@
 use Rattle.std.proofs.Common.{sym}
-use Rattle.rewrite.specs.Written.{together}
 use Rattle.rewrite.proofs.Turning.{no_test, no_product, unturned, not_there}
 use Rattle.rewrite.proofs.Pairs.{left_there}
 use Rattle.rewrite.proofs.Moved.{below_there, below_unturned, not_behind, test_into_right_made}
@@ -18,6 +17,5 @@ pub returns-then-not-reads_behind : goal.returns-then-not-reads_behind
 returns-then-not-reads_behind c = not_behind _ _ c.in_ok-selected.ensures c.in_ok-product.ensures c.in_ok-left.ensures (sym c.if-not-reads_behind.ensures)
 
 pub returns : goal.returns
-unfolding together
 returns c =
     test_into_right_made _ _ c.in_ok-selected.ensures c.in_ok-product.ensures c.in_ok-left.ensures _ _ (sym c.if-not-reads_behind.ensures) c.moved_left-test.ensures c.from-moved.ensures c.put.ensures

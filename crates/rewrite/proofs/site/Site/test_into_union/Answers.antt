@@ -1,4 +1,3 @@
-use Rattle.rewrite.specs.Written.{together}
 use Rattle.rewrite.proofs.Turning.{no_test, no_union, unturned, not_there}
 use Rattle.rewrite.proofs.Pairs.{left_there}
 use Rattle.rewrite.proofs.Moved.{below_there, below_unturned, test_into_union_made}
@@ -14,5 +13,4 @@ pub returns-in_err-left : goal.returns-in_err-left
 returns-in_err-left c = rw c.from_residual-in_err-left.ensures (not_there (below_there c.in_ok-selected.ensures (left_there c.in_ok-union.ensures c.in_err-left.ensures)))
 
 pub returns : goal.returns
-unfolding together
 returns c = test_into_union_made _ _ c.in_ok-selected.ensures _ _ c.in_ok-union.ensures c.in_ok-left.ensures c.put.ensures

@@ -1,4 +1,3 @@
-use Rattle.rewrite.specs.Written.{together}
 use Rattle.rewrite.proofs.Turning.{no_product, no_union, unturned, not_there}
 use Rattle.rewrite.proofs.Pairs.{left_there, right_there, third_there, left_unturned, union_out_of_left_made}
 use Rattle.rewrite.proofs.site.Site.union_out_of_left.Goals as goal
@@ -19,5 +18,4 @@ pub returns-in_err-other : goal.returns-in_err-other
 returns-in_err-other c = rw c.from_residual-in_err-other.ensures (not_there (third_there c.in_ok-product.ensures c.in_ok-union.ensures c.in_ok-left.ensures c.in_ok-right.ensures c.in_err-other.ensures))
 
 pub returns : goal.returns
-unfolding together
 returns c = union_out_of_left_made _ _ c.in_ok-product.ensures _ _ c.in_ok-union.ensures c.in_ok-left.ensures c.in_ok-right.ensures c.in_ok-other.ensures c.put.ensures

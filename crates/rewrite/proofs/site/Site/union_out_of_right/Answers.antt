@@ -1,4 +1,3 @@
-use Rattle.rewrite.specs.Written.{together}
 use Rattle.rewrite.proofs.Turning.{no_product, no_union, unturned, not_there}
 use Rattle.rewrite.proofs.Pairs.{left_there, right_there, right_unturned, union_out_of_right_made}
 use Rattle.rewrite.proofs.site.Site.union_out_of_right.Goals as goal
@@ -16,5 +15,4 @@ pub returns-in_err-left : goal.returns-in_err-left
 returns-in_err-left c = rw c.from_residual-in_err-left.ensures (not_there (right_there c.in_ok-product.ensures c.in_ok-other.ensures (left_there c.in_ok-union.ensures c.in_err-left.ensures)))
 
 pub returns : goal.returns
-unfolding together
 returns c = union_out_of_right_made _ _ c.in_ok-product.ensures c.in_ok-other.ensures _ _ c.in_ok-union.ensures c.in_ok-left.ensures c.put.ensures
