@@ -1,4 +1,3 @@
-pub mod Together
 pub mod Forms
 pub mod Places
 pub mod Fronts

@@ -7,7 +7,7 @@ use crate::site::Site;
 use query::{SIGNS, parse};
 use tables::fit;
 
-impl<'a> Site<'a> {
+impl Site<'_> {
     /// Makes a step at the query at this place, and writes what stands before it, what is made of it, and what comes after it.
     // A match on the kinds of steps: the caller gives the step as a value of a closed enum, so closures in its place would be no plainer.
     fn make(self, step: Step, into: &mut [u64]) -> Option<usize>

@@ -7,7 +7,7 @@ use crate::site::Site;
 use crate::write::put;
 use query::Pairing;
 
-impl<'a> Site<'a> {
+impl Site<'_> {
     /// The sides of a union change places.
     pub fn swap_union(self, into: &mut [u64]) -> Option<usize>
         ensures { Makes SwapUnion self.entry into.old into.new result }

@@ -8,7 +8,7 @@ use crate::site::Site;
 use crate::write::put;
 use query::{Change, Operator, SIGNS, keep_cells};
 
-impl<'a> Site<'a> {
+impl Site<'_> {
     /// A test of the columns that a projection keeps is made before it.
     pub fn test_below_projection(self, into: &mut [u64]) -> Option<usize>
         ensures { Makes TestBelowProjection self.entry into.old into.new result }

@@ -8,7 +8,7 @@ use crate::site::Site;
 use crate::write::put;
 use query::{Change, Operator, Pairing, SIGNS};
 
-impl<'a> Site<'a> {
+impl Site<'_> {
     /// Two tests change places.
     pub fn swap_tests(self, into: &mut [u64]) -> Option<usize>
         ensures { Makes SwapTests self.entry into.old into.new result }
