@@ -1,6 +1,7 @@
 //! Finding a node that stands already, or else adding it, so that equal nodes stand once.
 ghost use Rattle.std.specs.Prelude.{◌≡◌, ◌++◌, length, drop, replicate, MatchBool};
 ghost use Rattle.circuit.specs.Hints.{half, Started, FoundOrAdded};
+ghost use Rattle.circuit.specs.Lent.{SameMemory};
 
 use crate::Node;
 use crate::adding::push;
@@ -26,8 +27,9 @@ impl<'a> Circuit<'a> {
     /// Makes the memory an empty store, and the hints those of one, so that equal nodes will stand once.
     /// `false`, with nothing changed, where the memory is empty.
     pub fn start(&mut self) -> bool
-        ensures { MatchBool result (Started self.old.nodes.now self.new.nodes.now self.old.hints.now self.new.hints.now)
+        ensures started { MatchBool result (Started self.old.nodes.now self.new.nodes.now self.old.hints.now self.new.hints.now)
             ((length self.old.nodes.now ≡ 0) × (self.new.nodes.now ≡ self.old.nodes.now) × (self.new.hints.now ≡ self.old.hints.now)) }
+        ensures memory { SameMemory self.old self.new }
     {
         let (nodes, hints) = (&mut *self.nodes, &mut *self.hints);
         if nodes.is_empty() {
@@ -41,7 +43,8 @@ impl<'a> Circuit<'a> {
     /// The place of a node: one at which it stands, if its hints lead to one, or else behind the others, if there is room.
     /// From `start` on, with at least twice as many hints as nodes, no two nodes are equal.
     pub fn find_or_push(&mut self, node: Node) -> Option<u64>
-        ensures { FoundOrAdded self.old.nodes.now self.new.nodes.now self.old.hints.now self.new.hints.now node result }
+        ensures found { FoundOrAdded self.old.nodes.now self.new.nodes.now self.old.hints.now self.new.hints.now node result }
+        ensures memory { SameMemory self.old self.new }
     {
         let (nodes, hints) = (&mut *self.nodes, &mut *self.hints);
         if let Some(place) = find(nodes, hints, node) {

@@ -1,5 +1,6 @@
 //! A table of hints, by which a node that stands is found. Its first half are heads, one for each hash, and its second half
 //! links, one for each place: each is 0, or one more than a place. A place is looked at before it is taken.
+// Two rows of places in one lent slice, and no map: nothing here is allocated.
 ghost use Rattle.std.specs.Prelude.{◌≡◌, ℕ, ◌<◌, Decides, MatchOption};
 ghost use Rattle.circuit.specs.Hints.{slot_of, link_of, hints_with, StandsAt, Hinted};
 

@@ -2,6 +2,7 @@
 ghost use Rattle.std.specs.Prelude.{◌≡◌};
 ghost use Rattle.circuit.specs.Hints.{FoundOrAdded};
 ghost use Rattle.circuit.specs.Joins.{or_is, both_is, Joined};
+ghost use Rattle.circuit.specs.Lent.{SameMemory};
 
 use crate::Node;
 use crate::finding::Circuit;
@@ -36,15 +37,17 @@ impl<'a> Circuit<'a> {
 
     /// The place of a mark, found or added.
     pub fn mark(&mut self, number: u64) -> Option<u64>
-        ensures { FoundOrAdded self.old.nodes.now self.new.nodes.now self.old.hints.now self.new.hints.now (Node.Mark number) result }
+        ensures found { FoundOrAdded self.old.nodes.now self.new.nodes.now self.old.hints.now self.new.hints.now (Node.Mark number) result }
+        ensures memory { SameMemory self.old self.new }
     {
         self.find_or_push(Node::Mark(number))
     }
 
     /// The place of "a or b", for two nodes of the store: the other one where one is never, and else a node that is found or added.
     pub fn or(&mut self, a: u64, b: u64) -> Option<u64>
-        ensures { Joined self.old.nodes.now self.new.nodes.now self.old.hints.now self.new.hints.now
+        ensures joined { Joined self.old.nodes.now self.new.nodes.now self.old.hints.now self.new.hints.now
             (or_is self.old.nodes.now a b) (Node.Or a b) result }
+        ensures memory { SameMemory self.old self.new }
     {
         match self.or_is(a, b) {
             Some(place) => Some(place),
@@ -55,8 +58,9 @@ impl<'a> Circuit<'a> {
     /// The place of "both a and b", for two nodes of the store: never where one is never, the other one where one is always,
     /// and else a node that is found or added.
     pub fn both(&mut self, a: u64, b: u64) -> Option<u64>
-        ensures { Joined self.old.nodes.now self.new.nodes.now self.old.hints.now self.new.hints.now
+        ensures joined { Joined self.old.nodes.now self.new.nodes.now self.old.hints.now self.new.hints.now
             (both_is self.old.nodes.now a b) (Node.Both a b) result }
+        ensures memory { SameMemory self.old self.new }
     {
         match self.both_is(a, b) {
             Some(place) => Some(place),

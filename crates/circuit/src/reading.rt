@@ -7,6 +7,7 @@ use crate::store::{BadNode, Store};
 use crate::{Node, Placed};
 
 /// The node that three numbers are as node `place` of a store, if they can be read as one.
+// No `TryFrom`: which numbers are a node depends on where it stands.
 fn read_node(place: u64, kind: u64, a: u64, b: u64) -> Option<Node>
     ensures { result ≡ node_read place kind a b }
 {

@@ -6,3 +6,4 @@ pub mod RunningTwo
 pub mod Fitting
 pub mod Tallies
 pub mod TalliesTwo
+pub mod Answering

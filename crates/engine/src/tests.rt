@@ -1,8 +1,8 @@
 //! A join that is weighed and run, memory that is just enough and too little, and weights past the limit.
 use crate::{run_weighed, weigh, weigh_in};
-use circuit::start;
-use query::parse;
-use rows::{Circuit, Region};
+use circuit::Circuit;
+use query::Question;
+use rows::Region;
 use std::test::Fail;
 use tables::fit;
 
@@ -23,14 +23,9 @@ fn weights(
     signs: &[u64],
     work: &mut [u64],
 ) -> Option<(Option<usize>, Option<usize>)> {
-    let Ok(()) = fit(tables) else {
-        return None;
-    };
-    let Ok(_) = parse(tables, signs) else {
-        return None;
-    };
-    let within = weigh_in(tables, signs, work);
-    Some((within, weigh(tables, signs, work)))
+    let question = Question::read(fit(tables).ok()?, signs).ok()?;
+    let within = weigh_in(question, work);
+    Some((within, weigh(question, work)))
 }
 
 /// The rows of a query, with nodes for notes, if it can be read and there is room.
@@ -41,23 +36,19 @@ fn answered(
     hints: &mut [u64],
     work: &mut [u64],
 ) -> Option<Region> {
-    let Ok(()) = fit(tables) else {
-        return None;
-    };
-    let Ok(_) = parse(tables, signs) else {
-        return None;
-    };
-    let weight = weigh(tables, signs, work)?;
+    let question = Question::read(fit(tables).ok()?, signs).ok()?;
+    let weight = weigh(question, work)?;
     if work.len() / 9 < weight || nodes.len() / 4 < weight {
         return None;
     }
     if hints.len() / 2 < weight {
         return None;
     }
-    if !start(nodes, hints) {
+    let mut circuit = Circuit { nodes, hints };
+    if !circuit.start() {
         return None;
     }
-    Some(run_weighed::<Circuit>(tables, signs, nodes, hints, work, weight))
+    Some(run_weighed(question, &mut circuit, work, weight))
 }
 
 #[test]

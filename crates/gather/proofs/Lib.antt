@@ -11,4 +11,3 @@ pub mod Ordering
 pub mod Whole
 pub mod Positive
 pub mod Answering
-pub mod Sums

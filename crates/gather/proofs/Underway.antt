@@ -11,6 +11,8 @@ use Rattle.circuit.specs.Expr.{Expr, or, value}
 use Rattle.circuit.specs.Store.{nodes_in, expr_of}
 use Rattle.circuit.specs.Held.{count_in}
 use Rattle.circuit.specs.Joins.{CountsAs}
+use Rattle.circuit.specs.Lent.{SameMemory}
+use Rattle.circuit.specs.declared.finding.Circuit.{Circuit}
 use Rattle.circuit.proofs.NodeLists.{length_nodes_in}
 use Rattle.provenance.specs.Answer.{Answer, RowsRise, none, one}
 use Rattle.gather.specs.declared.region.Entry.{Entry}
@@ -186,6 +188,16 @@ module _ (rows : List Answer) (w : ℕ) (m0 hints0 out0 : List ℕ) (order : InO
         behind = refl;
       }
 
-pub underway_meets : (rows : List Answer) (w : ℕ) (m0 m m1 hints0 hints hints1 out0 out out1 : List ℕ) (last last1 : Entry) (n n1 i : ℕ) → m ≡ m1 → hints ≡ hints1 → out ≡ out1 → last ≡ last1 → n ≡ n1 →
-    Underway rows w m0 m1 hints0 hints1 out0 out1 (answer_of last1) n1 i → Underway rows w m0 m hints0 hints out0 out (answer_of last) n i
-underway_meets rows w m0 m m1 hints0 hints hints1 out0 out out1 last last1 n n1 i a h b e f g = rw (a, h, b, e, f) g
+-- the same of a circuit, which stays in the memory that it was lent
+abbrev pub Merging : List Answer → ℕ → Circuit → Circuit → List ℕ → List ℕ → Answer → ℕ → ℕ → Type 0
+Merging rows w c0 c out0 out last n i = Underway rows w c0.nodes.now c.nodes.now c0.hints.now c.hints.now out0 out last n i × SameMemory c0 c
+
+pub memory_same : (c : Circuit) → SameMemory c c
+memory_same c = record { nodes = refl; hints = refl }
+
+pub memory_over : (c0 c c1 : Circuit) → SameMemory c0 c → SameMemory c c1 → SameMemory c0 c1
+memory_over c0 c c1 a b = record { nodes = b.nodes ∙ a.nodes; hints = b.hints ∙ a.hints }
+
+pub merging_meets : (rows : List Answer) (w : ℕ) (c0 c c1 : Circuit) (out0 out out1 : List ℕ) (last last1 : Entry) (n n1 i : ℕ) → c ≡ c1 → out ≡ out1 → last ≡ last1 → n ≡ n1 →
+    Merging rows w c0 c1 out0 out1 (answer_of last1) n1 i → Merging rows w c0 c out0 out (answer_of last) n i
+merging_meets rows w c0 c c1 out0 out out1 last last1 n n1 i a b e f g = rw (a, b, e, f) g

@@ -1,10 +1,11 @@
 //! Gathering the rows of a region into an answer, in local memory of a size that suits them.
 ghost use Rattle.std.specs.Prelude.{◌+◌, ◌*◌, ◌≤◌, length};
+ghost use Rattle.circuit.specs.Lent.{SameMemory};
 ghost use Rattle.gather.specs.Gathered.{region_rows, Ready, Written};
 
 use crate::merging::merge;
 use crate::region::{Entry, load};
-use crate::runs::merge_up;
+use circuit::Circuit;
 use rows::Region;
 
 const FEW: usize = 64;
@@ -18,112 +19,81 @@ const NONE: Entry<'static> = Entry {
     node: 0,
 };
 
-/// Gathers the rows of a region by way of `entries`, with as many `spare` ones, of which there are enough. Runs are merged first,
-/// so that the sort, which rests on no run, mostly finds the entries in order.
+/// Gathers the rows of a region by way of `entries`, of which there are enough.
 fn gather_by<'a>(
     work: &'a [u64],
     rows: Region,
     entries: &mut [Entry<'a>],
-    spare: &mut [Entry<'a>],
-    nodes: &mut [u64],
-    hints: &mut [u64],
+    circuit: &mut Circuit<'_>,
     out: &mut [u64],
 ) -> usize
+    requires enough { (rows.count ≤ length entries.old) × (rows.count ≤ 8192) }
     requires within { (rows.width ≤ 8) × (9 * (rows.first + rows.count) ≤ length work.now) }
-    requires ready { Ready (region_rows work.now rows) rows.width nodes.old out.old }
-    requires enough { (rows.count ≤ length entries.old) × (rows.count ≤ length spare.old) }
-    requires few { rows.count ≤ 8192 }
-    ensures { Written (region_rows work.now rows) rows.width nodes.old nodes.new
-        hints.old hints.new out.old out.new result }
+    requires ready { Ready (region_rows work.now rows) rows.width circuit.old.nodes.now out.old }
+    ensures written { Written (region_rows work.now rows) rows.width circuit.old.nodes.now circuit.new.nodes.now
+        circuit.old.hints.now circuit.new.hints.now out.old out.new result }
+    ensures memory { SameMemory circuit.old circuit.new }
 {
-    let count = rows.count;
-    let entries = &mut entries[0..count];
-    let spare = &mut spare[0..count];
+    let entries = &mut entries[0..rows.count];
     load(work, rows, entries);
-    merge_up(entries, spare);
-    entries.sort_unstable();
-    let count = merge(entries, rows.width, nodes, hints, out);
+    entries.sort_unstable_by_key(|entry| entry.cells);
+    let count = merge(entries, rows.width, circuit, out);
     out[0] = count as u64;
     count
 }
 
 /// Gathers at most 64 rows.
-fn gather_few(
-    work: &[u64],
-    rows: Region,
-    nodes: &mut [u64],
-    hints: &mut [u64],
-    out: &mut [u64],
-) -> usize
+// Three functions, and none by a const parameter: an array of references whose length is one gets no proof.
+fn gather_few(work: &[u64], rows: Region, circuit: &mut Circuit<'_>, out: &mut [u64]) -> usize
     requires few { rows.count ≤ 64 }
     requires within { (rows.width ≤ 8) × (9 * (rows.first + rows.count) ≤ length work.now) }
-    requires ready { Ready (region_rows work.now rows) rows.width nodes.old out.old }
-    ensures { Written (region_rows work.now rows) rows.width nodes.old nodes.new
-        hints.old hints.new out.old out.new result }
+    requires ready { Ready (region_rows work.now rows) rows.width circuit.old.nodes.now out.old }
+    ensures written { Written (region_rows work.now rows) rows.width circuit.old.nodes.now circuit.new.nodes.now
+        circuit.old.hints.now circuit.new.hints.now out.old out.new result }
+    ensures memory { SameMemory circuit.old circuit.new }
 {
-    let mut entries = [NONE; FEW];
-    let mut spare = [NONE; FEW];
-    gather_by(work, rows, &mut entries, &mut spare, nodes, hints, out)
+    gather_by(work, rows, &mut [NONE; FEW], circuit, out)
 }
 
 /// Gathers at most 1,024 rows.
-fn gather_some(
-    work: &[u64],
-    rows: Region,
-    nodes: &mut [u64],
-    hints: &mut [u64],
-    out: &mut [u64],
-) -> usize
+fn gather_some(work: &[u64], rows: Region, circuit: &mut Circuit<'_>, out: &mut [u64]) -> usize
     requires few { rows.count ≤ 1024 }
     requires within { (rows.width ≤ 8) × (9 * (rows.first + rows.count) ≤ length work.now) }
-    requires ready { Ready (region_rows work.now rows) rows.width nodes.old out.old }
-    ensures { Written (region_rows work.now rows) rows.width nodes.old nodes.new
-        hints.old hints.new out.old out.new result }
+    requires ready { Ready (region_rows work.now rows) rows.width circuit.old.nodes.now out.old }
+    ensures written { Written (region_rows work.now rows) rows.width circuit.old.nodes.now circuit.new.nodes.now
+        circuit.old.hints.now circuit.new.hints.now out.old out.new result }
+    ensures memory { SameMemory circuit.old circuit.new }
 {
-    let mut entries = [NONE; SOME];
-    let mut spare = [NONE; SOME];
-    gather_by(work, rows, &mut entries, &mut spare, nodes, hints, out)
+    gather_by(work, rows, &mut [NONE; SOME], circuit, out)
 }
 
 /// Gathers at most 8,192 rows.
-fn gather_many(
-    work: &[u64],
-    rows: Region,
-    nodes: &mut [u64],
-    hints: &mut [u64],
-    out: &mut [u64],
-) -> usize
+fn gather_many(work: &[u64], rows: Region, circuit: &mut Circuit<'_>, out: &mut [u64]) -> usize
     requires few { rows.count ≤ 8192 }
     requires within { (rows.width ≤ 8) × (9 * (rows.first + rows.count) ≤ length work.now) }
-    requires ready { Ready (region_rows work.now rows) rows.width nodes.old out.old }
-    ensures { Written (region_rows work.now rows) rows.width nodes.old nodes.new
-        hints.old hints.new out.old out.new result }
+    requires ready { Ready (region_rows work.now rows) rows.width circuit.old.nodes.now out.old }
+    ensures written { Written (region_rows work.now rows) rows.width circuit.old.nodes.now circuit.new.nodes.now
+        circuit.old.hints.now circuit.new.hints.now out.old out.new result }
+    ensures memory { SameMemory circuit.old circuit.new }
 {
-    let mut entries = [NONE; MANY];
-    let mut spare = [NONE; MANY];
-    gather_by(work, rows, &mut entries, &mut spare, nodes, hints, out)
+    gather_by(work, rows, &mut [NONE; MANY], circuit, out)
 }
 
 /// Gathers the rows of a region into an answer, and says how many rows that has: it writes their number and then each row, its
 /// node and its cells, in order, equal rows together. No node of the store changes, and at most one is added for each row less.
-pub fn gather(
-    work: &[u64],
-    rows: Region,
-    nodes: &mut [u64],
-    hints: &mut [u64],
-    out: &mut [u64],
-) -> usize
+pub fn gather(work: &[u64], rows: Region, circuit: &mut Circuit<'_>, out: &mut [u64]) -> usize
     requires few { rows.count ≤ 8192 }
     requires within { (rows.width ≤ 8) × (9 * (rows.first + rows.count) ≤ length work.now) }
-    requires ready { Ready (region_rows work.now rows) rows.width nodes.old out.old }
-    ensures { Written (region_rows work.now rows) rows.width nodes.old nodes.new
-        hints.old hints.new out.old out.new result }
+    requires ready { Ready (region_rows work.now rows) rows.width circuit.old.nodes.now out.old }
+    ensures written { Written (region_rows work.now rows) rows.width circuit.old.nodes.now circuit.new.nodes.now
+        circuit.old.hints.now circuit.new.hints.now out.old out.new result }
+    ensures memory { SameMemory circuit.old circuit.new }
 {
     if rows.count <= FEW {
-        gather_few(work, rows, nodes, hints, out)
+        gather_few(work, rows, circuit, out)
     } else if rows.count <= SOME {
-        gather_some(work, rows, nodes, hints, out)
+        gather_some(work, rows, circuit, out)
     } else {
-        gather_many(work, rows, nodes, hints, out)
+        gather_many(work, rows, circuit, out)
     }
 }

@@ -4,7 +4,6 @@
 mod gathering;
 mod merging;
 mod region;
-mod runs;
 
 pub use gathering::gather;
 

@@ -2,25 +2,24 @@
 ghost use Rattle.std.specs.Prelude.{◌≡◌, ◌+◌, ◌*◌, ◌<◌, ◌≤◌, [], ◌∷◌, ◌++◌, map, length, drop};
 ghost use Rattle.circuit.specs.Held.{count_in, Proper};
 ghost use Rattle.circuit.specs.Joins.{CountsAs};
+ghost use Rattle.circuit.specs.Lent.{SameMemory};
 ghost use Rattle.circuit.specs.declared.Node.TheVariants.{Or};
 ghost use Rattle.gather.specs.Gathered.{answer_of, answers_in, Wide, InOrder, Ready, Merged, Extended};
 
 use crate::region::Entry;
-use circuit::or;
+use circuit::Circuit;
 use tables::equal;
 
 /// The node for "a or b", for which there is room.
-fn join(nodes: &mut [u64], hints: &mut [u64], a: u64, b: u64) -> u64
-    requires store { Proper nodes.old }
-    requires counted { (a < count_in nodes.old) × (b < count_in nodes.old) }
-    requires room { 4 + 3 * count_in nodes.old ≤ length nodes.old }
-    ensures store { Extended nodes.old nodes.new hints.old hints.new 1 }
-    ensures counts { CountsAs nodes.old nodes.new (Or a b) result }
+fn join(circuit: &mut Circuit<'_>, a: u64, b: u64) -> u64
+    requires store { Proper circuit.old.nodes.now }
+    requires counted { (a < count_in circuit.old.nodes.now) × (b < count_in circuit.old.nodes.now) }
+    requires room { 4 + 3 * count_in circuit.old.nodes.now ≤ length circuit.old.nodes.now }
+    ensures store { Extended circuit.old.nodes.now circuit.new.nodes.now circuit.old.hints.now circuit.new.hints.now 1 }
+    ensures counts { CountsAs circuit.old.nodes.now circuit.new.nodes.now (Or a b) result }
+    ensures memory { SameMemory circuit.old circuit.new }
 {
-    match or(nodes, hints, a, b) {
-        Some(node) => node,
-        None => unreachable(),
-    }
+    circuit.or(a, b).unwrap()
 }
 
 /// Writes row `n` of an answer, behind the rows before it.
@@ -40,29 +39,28 @@ fn write_row(out: &mut [u64], width: usize, n: usize, row: Entry<'_>)
 pub fn merge(
     entries: &[Entry<'_>],
     width: usize,
-    nodes: &mut [u64],
-    hints: &mut [u64],
+    circuit: &mut Circuit<'_>,
     out: &mut [u64],
 ) -> usize
     requires order { InOrder (map answer_of entries.now) }
     requires wide { Wide width (map answer_of entries.now) }
-    requires ready { Ready (map answer_of entries.now) width nodes.old out.old }
-    ensures { Merged (map answer_of entries.now) width nodes.old nodes.new
-        hints.old hints.new out.old out.new result }
+    requires ready { Ready (map answer_of entries.now) width circuit.old.nodes.now out.old }
+    ensures merged { Merged (map answer_of entries.now) width circuit.old.nodes.now circuit.new.nodes.now
+        circuit.old.hints.now circuit.new.hints.now out.old out.new result }
+    ensures memory { SameMemory circuit.old circuit.new }
 {
-    let Some(first) = entries.first() else {
+    let [first, rest @ ..] = entries else {
         return 0;
     };
     let mut last = *first;
     let mut written = 0;
-    for i in 1..entries.len() {
-        let entry = entries[i];
+    for entry in rest {
         if equal(last.cells, entry.cells) {
-            last.node = join(nodes, hints, last.node, entry.node);
+            last.node = join(circuit, last.node, entry.node);
         } else {
             write_row(out, width, written, last);
             written += 1;
-            last = entry;
+            last = *entry;
         }
     }
     write_row(out, width, written, last);

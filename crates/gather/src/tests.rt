@@ -1,5 +1,6 @@
 //! Ships and the holders of their licences: the rows of a query in which one row comes about twice.
 use crate::gather;
+use circuit::Circuit;
 use rows::Region;
 use std::test::Fail;
 
@@ -21,7 +22,11 @@ fn equal_rows_come_together(rt: HostRuntime) -> Result<(), Fail> {
         count: 5,
         width: 2,
     };
-    assert_eq!(rt; gather(&work, rows, &mut nodes, &mut [], &mut out), 4);
+    let mut circuit = Circuit {
+        nodes: &mut nodes,
+        hints: &mut [],
+    };
+    assert_eq!(rt; gather(&work, rows, &mut circuit, &mut out), 4);
     assert_eq!(rt; out, [4, 0, 7, 40, 1, 7, 50, 5, 8, 40, 4, 8, 50, 9, 9, 9]);
     assert_eq!(rt; nodes[0], 6, "one node more");
     assert_eq!(rt; [nodes[16], nodes[17], nodes[18]], [3, 2, 3], "2 or 3");

@@ -1,6 +1,7 @@
 pub mod Slots
 pub mod Regions
 pub mod Growing
+pub mod Keeping
 pub mod Asking
 pub mod Changing
 pub mod Noting
@@ -8,4 +9,5 @@ pub mod Scanning
 pub mod Sifting
 pub mod Pairing
 pub mod Turns
+pub mod Walking
 pub mod Storing

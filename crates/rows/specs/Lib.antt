@@ -1,4 +1,5 @@
 pub mod Memory
+pub mod Sheets
 pub mod Notes
 pub mod Appended
 pub mod Paired

@@ -9,12 +9,13 @@ mod memory;
 mod notes;
 mod pairs;
 mod scans;
+mod sheet;
 mod store;
 
 pub use counting::count_pairs;
 pub use each::append_each;
-pub use memory::{Region, Row, Used, put, row_at};
+pub use memory::{Region, Row, SPAN, Used, put, row_at};
 pub use notes::{Annotate, Unannotated};
 pub use pairs::append_pairs;
 pub use scans::append_table;
-pub use store::Circuit;
+pub use sheet::Sheet;

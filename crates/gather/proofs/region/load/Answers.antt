@@ -1,17 +1,25 @@
-use Rattle.std.proofs.Common.{◌≡◌, ◌+◌, ◌*◌, map, take, drop, sym, refl, ap, ◌∙◌, arith}
-use Rattle.std.proofs.lemmas.List.{take_all}
-use Rattle.gather.specs.Gathered.{answer_of, rows_apart}
+use Rattle.std.proofs.Common.{◌≡◌, refl, ◌∙◌, arith}
+use Rattle.std.specs.Iterator.Adapters.{enumerate_count}
+use Rattle.rows.proofs.Walking.{walked_none, walked_more}
 use Rattle.gather.proofs.Loading.{load_none, load_more}
 use Rattle.gather.proofs.region.load.Goals as goal
 
 pub loop-i-init : goal.loop-i-init
-loop-i-init c = load_none _ _
+loop-i-init c =
+    let start : enumerate_count c.into_iter-i-iterator.result ≡ 0 = cc in
+    (rw start (walked_none c.args.work.now c.args.rows _ (cc)), cc, load_none _ _ _ _ start)
 
 pub loop-i-preserved : goal.loop-i-preserved
-loop-i-preserved c = load_more c.args.rows.width c.args.rows.first c.loop-i.i c.args.work.now c.loop-i.entries _ (omega arith) (ap (λ k. take k (drop (9 * (c.args.rows.first + c.loop-i.i) + 1) c.args.work.now)) (omega arith)) refl c.loop-i.invariant
-
-pub returns : goal.returns
-returns c =
-    let end : c.loop-i.i ≡ c.args.rows.count = omega arith in
-    sym (ap (map answer_of) (take_all c.loop-i.i c.loop-i.entries (omega arith))) ∙ c.loop-i.invariant
-    ∙ ap (λ k. rows_apart 9 c.args.rows.width k (drop (9 * c.args.rows.first) c.args.work.now)) end
+loop-i-preserved c =
+    let m = c.args.work.now in
+    let r = c.args.rows in
+    let i = enumerate_count c.loop-i.i-iterator in
+    let steps = c.in-Some.ensures.steps in
+    let inv = c.loop-i.invariant in
+    let nine = steps.0.1.1 ∙ inv.1 in
+    let more = walked_more m r i _ c.in-Some.row.now _ inv.0 steps.0.1.0 nine in
+    rw (steps.2, steps.1) (
+      more,
+      steps.0.0 ∙ inv.1,
+      load_more m r i _ c.in-Some.row.now _ inv.0 steps.0.1.0 nine c.requires.within.0 c.loop-i.entries _ (omega (arith, more.within, c.requires.long, c.loop-i.auto.entries)) refl refl inv.2,
+    )
