@@ -6,9 +6,7 @@ use Rattle.tables.specs.Bool.{pick}
 use Rattle.tables.specs.Tables.{Row}
 use Rattle.query.specs.Semiring.{Count}
 use Rattle.query.specs.Query.{Test, same, is, below, Query, scan, select, project, product, union}
-use Rattle.query.specs.Operators.{test_of, test_fits, all_below}
-use Rattle.query.specs.declared.operator.Test.{Test as Code-test}
-use Rattle.query.specs.declared.operator.Test.TheVariants.{Same, Is, Below}
+use Rattle.query.specs.Operators.{test_of, all_below}
 use Rattle.query.specs.declared.operator.Change.TheVariants.{Select, Project}
 use Rattle.query.specs.declared.operator.Pairing.TheVariants.{Product, Union}
 use Rattle.query.proofs.Steps.{differ, select_fits, project_fits}
@@ -21,6 +19,7 @@ use Rattle.rewrite.specs.Rewritten.{width, on_select, on_project, on_product, on
 use Rattle.rewrite.specs.Written.{Written, scanned, changing, pairing}
 use Rattle.rewrite.specs.Outcome.{OfWidths}
 use Rattle.rewrite.proofs.Forms.{written_width, stands_there}
+use Rattle.rewrite.proofs.Moved.{within_is_fits}
 
 -- where something is made, the query has the form
 module _ (n : Query) where
@@ -65,11 +64,6 @@ within_is w (same a b) e = let k = and_parts (ltb a w) (ltb b w) e in (ltb-true 
 within_is w (is a n) e = ltb-true a w e
 within_is w (below a n) e = ltb-true a w e
 
-fits_within : (c : Code-test) (w : ℕ) → test_fits c w ≡ true → within w (test_of c) ≡ true
-fits_within (Same a b) w e = e
-fits_within (Is a n) w e = e
-fits_within (Below a n) w e = e
-
 back : (w a : ℕ) → leb w a ≡ true → w + (a - w) ≡ a
 back w a e = omega (arith, leb-true w a e)
 
@@ -90,7 +84,7 @@ below_test : {ws xs : List ℕ} {q : Query} {w : ℕ} (c : Test) (p : Query) →
 below_test c p (scanned t s h) e = absurd (differ cc)
 below_test {ws} c p (changing {xs = xs} {q = q} {v = v} (Select d) s g i) e =
     let f : q ≡ p = cc in let h : test_of d ≡ c = cc in
-    (xs, v, subst (λ r. Written ws xs r v) f i, subst (λ t. within v t ≡ true) h (fits_within d v (select_fits d v _ g).0))
+    (xs, v, subst (λ r. Written ws xs r v) f i, subst (λ t. within v t ≡ true) h (within_is_fits d v ∙ (select_fits d v _ g).0))
 below_test c p (changing (Project k cs) s g i) e = absurd (differ cc)
 below_test c p (pairing Product s g i k) e = absurd (differ cc)
 below_test c p (pairing Union s g i k) e = absurd (differ cc)

@@ -2,7 +2,7 @@
 use Rattle.std.proofs.Common.{◌≡◌, ℕ, zero, suc, ◌+◌, ◌*◌, ◌<◌, ◌≤◌, List, ◌++◌, length, get_or, take, drop, Some, sym, refl, ap, ◌∙◌, subst, ap₂, append_assoc, arith, lt-ltb}
 use Rattle.std.proofs.lemmas.List.{get_or_append_left, length-append, length-drop, length-take-le, take-append-drop, take_at, drop_at}
 use Rattle.query.specs.Query.{Query, scan}
-use Rattle.query.specs.Operators.{operator_at, change_width, pair_width, changed, paired}
+use Rattle.query.specs.Operators.{Sign, operator_at, change_width, pair_width, changed, paired}
 use Rattle.query.specs.Parse.{parsed, reads}
 use Rattle.query.specs.declared.operator.Operator.{Operator}
 use Rattle.query.specs.declared.operator.Operator.TheVariants.{Scan, One, Two}
@@ -13,7 +13,7 @@ use Rattle.query.specs.declared.operator.Pairing.TheVariants.{Product, Union}
 use Rattle.query.proofs.Steps.{differ, operator_whole, operator_long, project_four, select_fits, project_fits, product_fits, union_fits, reads_step}
 use Rattle.query.proofs.Shown.{StandsIn, at_scan, at_one, at_two, front, front_shorter}
 use Rattle.rewrite.specs.Rewritten.{size, width}
-use Rattle.rewrite.specs.Written.{Sign, Written, scanned, changing, pairing, Begun}
+use Rattle.rewrite.specs.Written.{Written, scanned, changing, pairing, Begun}
 
 -- what stands behind its six numbers says nothing of an operator
 pub operator_front : (six after : List ℕ) → length six ≡ 6 → operator_at (six ++ after) ≡ operator_at six
@@ -61,18 +61,6 @@ pub record InsideTwo (ws : List ℕ) (j : Pairing) (q : Query) (w : ℕ) (rest a
   pub parts : rest ≡ left_signs ++ (right_signs ++ after)
 
 module _ (ws at six rest after : List ℕ) where
-  pub scan_inside : (t : ℕ) {xs : List ℕ} {q : Query} {w : ℕ} → Begun at (Scan t) six rest → Written ws xs q w → at ≡ xs ++ after →
-      (t < length ws) × (w ≡ get_or ws t 0) × (xs ≡ six) × (rest ≡ after)
-  scan_inside t b (scanned {six = six'} t' s h) e =
-      let k = same_sign at six rest six' after (Scan t) (Scan t') b s e in
-      let same : t' ≡ t = cc in
-      let f = same_front six' six after rest (s.long ∙ sym b.sign.long) (sym e ∙ b.parts) in
-      (subst (λ (t : ℕ). t < length ws) same h, ap (λ t. get_or ws t 0) same, f.0, k.1)
-  scan_inside t b (changing {six = six'} {xs = xs} c s g i) e =
-      let k = same_sign at six rest six' (xs ++ after) (Scan t) (One c) b s (e ∙ append_assoc six' xs after) in absurd (differ cc)
-  scan_inside t b (pairing {six = six'} {xs = xs} {ys = ys} j s g l r) e =
-      let k = same_sign at six rest six' ((xs ++ ys) ++ after) (Scan t) (Two j) b s (e ∙ append_assoc six' (xs ++ ys) after) in absurd (differ cc)
-
   pub one_inside : (c : Change) {xs : List ℕ} {q : Query} {w : ℕ} → Begun at (One c) six rest → Written ws xs q w → at ≡ xs ++ after →
       InsideOne ws c q w rest after
   one_inside c b (scanned {six = six'} t' s h) e =

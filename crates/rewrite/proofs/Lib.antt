@@ -1,7 +1,6 @@
-pub mod Together
 pub mod Forms
 pub mod Places
-pub mod Skipping
+pub mod Fronts
 pub mod Turning
 pub mod Pairs
 pub mod Moved

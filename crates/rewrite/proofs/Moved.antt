@@ -1,78 +1,63 @@
 -- What the steps on tests write. Assumes nothing.
-use Rattle.std.proofs.Common.{◌≡◌, ℕ, ◌+◌, ◌-◌, true, false, List, [], ◌++◌, Some, None, Option, sym, refl, ap, ◌∙◌, append_assoc, arith}
+use Rattle.std.proofs.Common.{◌≡◌, ℕ, ◌+◌, true, false, List, [], ◌++◌, Some, None, Option, sym, refl, ap, ◌∙◌, append_assoc, arith}
 use Rattle.std.proofs.lemmas.List.{append-nil}
 use Rattle.std.proofs.lemmas.Bool.Decides.{nat_tests}
 use Rattle.tables.specs.Bool.{pick}
-use Rattle.query.specs.Query.{select, product, union}
-use Rattle.query.specs.Operators.{operator_at, test_of, test_fits, change_width}
+use Rattle.query.specs.Query as query
+use Rattle.query.specs.Query.{same, is, below, select, product, union}
+use Rattle.query.specs.Operators.{Sign, test_of, test_fits, change_width, changed}
 use Rattle.query.specs.declared.operator.Operator.TheVariants.{One, Two}
 use Rattle.query.specs.declared.operator.Change.{Change}
 use Rattle.query.specs.declared.operator.Change.TheVariants.{Select}
 use Rattle.query.specs.declared.operator.Pairing.TheVariants.{Product, Union}
 use Rattle.query.specs.declared.operator.Test.{Test}
 use Rattle.query.specs.declared.operator.Test.TheVariants.{Same, Is, Below}
-use Rattle.query.proofs.Steps.{differ, select_fits, product_fits, union_fits}
+use Rattle.query.proofs.Steps.{select_fits, product_fits, union_fits}
+use Rattle.rewrite.specs.declared.Step.{Step}
 use Rattle.rewrite.specs.declared.Step.TheVariants.{SwapTests, TestIntoLeft, TestIntoRight, TestIntoUnion}
 use Rattle.rewrite.specs.declared.signs.Inner.{Inner}
 use Rattle.rewrite.specs.Rewritten.{turned, width, within, behind, earlier}
-use Rattle.rewrite.specs.Written.{Sign, changing, pairing, Begun, Puts, Turns, tests, is_product, is_union}
+use Rattle.rewrite.specs.Written.{changing, pairing, Begun, Puts, Turns}
 use Rattle.rewrite.proofs.Forms.{one_inside, two_inside, written_width}
-use Rattle.rewrite.proofs.Skipping.{Cannot}
-use Rattle.rewrite.proofs.Turning.{no_test, no_product, no_union, not_turned, made}
+use Rattle.rewrite.proofs.Fronts.{Cannot}
+use Rattle.rewrite.proofs.Turning.{Unmade, not_turned, made}
 use Rattle.rewrite.proofs.Pairs.{product_some, union_some, Ends}
 
 pub select_some : (c : Test) (v w : ℕ) → test_fits c v ≡ true → w ≡ v → Some w ≡ change_width (Select c) v
 select_some c v w e f = rw e (ap Some f)
 
--- a test that reads only some columns fits rows of so many
-within_fits : (c : Test) (v : ℕ) → within v (test_of c) ≡ true → test_fits c v ≡ true
-within_fits (Same a b) v e = e
-within_fits (Is a n) v e = e
-within_fits (Below a n) v e = e
+-- a test reads only some columns where it fits rows of so many
+pub within_is_fits : (c : Test) (v : ℕ) → within v (test_of c) ≡ test_fits c v
+within_is_fits (Same a b) v = refl
+within_is_fits (Is a n) v = refl
+within_is_fits (Below a n) v = refl
 
--- a test that fits a product, and reads only behind its left side, fits the right side
+-- a test of the columns of a product that reads only those behind its left side is a test of the columns of its right side
+within_earlier : (t : query.Test) (u v : ℕ) → within (u + v) t ≡ true → behind u t ≡ true → within v (earlier u t) ≡ true
+within_earlier (same a b) u v h k = grind (arith, nat_tests)
+within_earlier (is a n) u v h k = grind (arith, nat_tests)
+within_earlier (below a n) u v h k = grind (arith, nat_tests)
+
 behind_fits : (c d : Test) (u v : ℕ) → test_fits c (u + v) ≡ true → behind u (test_of c) ≡ true → test_of d ≡ earlier u (test_of c) → test_fits d v ≡ true
-behind_fits (Same a b) (Same a' b') u v h k e =
-    let p : a' ≡ a - u = cc in let r : b' ≡ b - u = cc in rw (p, r) (grind (arith, nat_tests))
-behind_fits (Is a n) (Is a' n') u v h k e = let p : a' ≡ a - u = cc in rw p (grind (arith, nat_tests))
-behind_fits (Below a n) (Below a' n') u v h k e = let p : a' ≡ a - u = cc in rw p (grind (arith, nat_tests))
-behind_fits (Same a b) (Is a' n') u v h k e = absurd (differ cc)
-behind_fits (Same a b) (Below a' n') u v h k e = absurd (differ cc)
-behind_fits (Is a n) (Same a' b') u v h k e = absurd (differ cc)
-behind_fits (Is a n) (Below a' n') u v h k e = absurd (differ cc)
-behind_fits (Below a n) (Same a' b') u v h k e = absurd (differ cc)
-behind_fits (Below a n) (Is a' n') u v h k e = absurd (differ cc)
+behind_fits c d u v h k e =
+    sym (within_is_fits d v) ∙ ap (within v) e ∙ within_earlier (test_of c) u v (within_is_fits c (u + v) ∙ h) k
 
 -- what a test needs is there
-pub below_there : (ws at six rest : List ℕ) (c : Change) → Begun at (One c) six rest → Cannot ws rest → Cannot ws at
-below_there ws at six rest c b n xs q w after s e =
+pub below_there : {ws at six rest : List ℕ} {c : Change} → Begun at (One c) six rest → Cannot ws rest → Cannot ws at
+below_there {ws} {at} {six} {rest} {c} b n xs q w after s e =
     let k = one_inside ws at six rest after c b s e in n k.signs k.inner k.from after k.written k.parts
 
-module _ (ws before at was now six rest : List ℕ) (r : Option ℕ) (c : Test) (b : Begun at (One (Select c)) six rest) where
-  -- what is below the test is of another form
-  pub no_test_below : tests (operator_at rest) ≡ None → Turns ws SwapTests before at was was None
-  no_test_below n xs q w after s e =
-      let k = one_inside ws at six rest after (Select c) b s e in
-      not_turned ws SwapTests before q w after was (ap (turned ws SwapTests) k.is ∙ no_test rest after n k.written k.parts _)
+-- where a step makes nothing of one query below an operator, it makes nothing of the whole
+pub below_unturned : {ws before at was six rest : List ℕ} {s : Step} {c : Change} → Begun at (One c) six rest →
+    Unmade ws rest (λ q. turned ws s (changed c q)) → Turns ws s before at was was None
+below_unturned {ws} {before} {at} {was} {six} {rest} {s} {c} b f xs q w after t e =
+    let k = one_inside ws at six rest after c b t e in
+    not_turned ws s before q w after was (ap (turned ws s) k.is ∙ f k.signs k.inner k.from after k.written k.parts)
 
-  pub no_product_for_left : is_product (operator_at rest) ≡ false → Turns ws TestIntoLeft before at was was None
-  no_product_for_left n xs q w after s e =
-      let k = one_inside ws at six rest after (Select c) b s e in
-      not_turned ws TestIntoLeft before q w after was (ap (turned ws TestIntoLeft) k.is ∙ no_product rest after n k.written k.parts _)
-
-  pub no_product_for_right : is_product (operator_at rest) ≡ false → Turns ws TestIntoRight before at was was None
-  no_product_for_right n xs q w after s e =
-      let k = one_inside ws at six rest after (Select c) b s e in
-      not_turned ws TestIntoRight before q w after was (ap (turned ws TestIntoRight) k.is ∙ no_product rest after n k.written k.parts _)
-
-  pub no_union_below : is_union (operator_at rest) ≡ false → Turns ws TestIntoUnion before at was was None
-  no_union_below n xs q w after s e =
-      let k = one_inside ws at six rest after (Select c) b s e in
-      not_turned ws TestIntoUnion before q w after was (ap (turned ws TestIntoUnion) k.is ∙ no_union rest after n k.written k.parts _)
-
-  pub swap_tests_made : (d : Test) (six₂ rest₂ : List ℕ) → Begun rest (One (Select d)) six₂ rest₂ →
+module _ {ws : List ℕ} (before : List ℕ) {at : List ℕ} (was : List ℕ) {six rest : List ℕ} {c : Test} (b : Begun at (One (Select c)) six rest) where
+  pub swap_tests_made : (now : List ℕ) (r : Option ℕ) {d : Test} {six₂ rest₂ : List ℕ} → Begun rest (One (Select d)) six₂ rest₂ →
       Puts (before ++ (six₂ ++ (six ++ (rest₂ ++ [])))) was now r → Turns ws SwapTests before at was now r
-  swap_tests_made d six₂ rest₂ b₂ put xs q w after s e =
+  swap_tests_made now r {d} {six₂} {rest₂} b₂ put xs q w after s e =
       let k = one_inside ws at six rest after (Select c) b s e in
       let k₂ = one_inside ws rest six₂ rest₂ after (Select d) b₂ k.written k.parts in
       let u = select_fits c k.from w k.fits in
@@ -85,13 +70,13 @@ module _ (ws before at was now six rest : List ℕ) (r : Option ℕ) (c : Test) 
       (ap (λ us. before ++ (six₂ ++ (six ++ (us ++ [])))) k₂.parts ∙ simp (append_assoc, append-nil))
       put
 
-  module _ (six₂ rest₂ : List ℕ) (x : Inner) (b₂ : Begun rest (Two Product) six₂ rest₂) (f : Ends ws rest₂ x) where
-    pub not_within : within x.width (test_of c) ≡ false → Turns ws TestIntoLeft before at was was None
+  module _ {six₂ rest₂ : List ℕ} {x : Inner} (b₂ : Begun rest (Two Product) six₂ rest₂) (f : Ends ws rest₂ x) where
+    pub not_within : test_fits c x.width ≡ false → Turns ws TestIntoLeft before at was was None
     not_within n xs q w after s e =
         let k = one_inside ws at six rest after (Select c) b s e in
         let k₂ = two_inside ws rest six₂ rest₂ after Product b₂ k.written k.parts in
         let l = f k₂.left_signs k₂.left k₂.left_width _ k₂.left_written k₂.parts in
-        let no : within (width ws k₂.left) (test_of c) ≡ false = ap (λ v. within v (test_of c)) (written_width k₂.left_written ∙ sym l.width) ∙ n in
+        let no : within (width ws k₂.left) (test_of c) ≡ false = within_is_fits c (width ws k₂.left) ∙ ap (test_fits c) (written_width k₂.left_written ∙ sym l.width) ∙ n in
         not_turned ws TestIntoLeft before q w after was
         (ap (turned ws TestIntoLeft) (k.is ∙ ap (select (test_of c)) k₂.is) ∙ ap (λ t. pick t (Some (product (select (test_of c) k₂.left) k₂.right)) None) no)
 
@@ -105,17 +90,17 @@ module _ (ws before at was now six rest : List ℕ) (r : Option ℕ) (c : Test) 
         (ap (turned ws TestIntoRight) (k.is ∙ ap (select (test_of c)) k₂.is)
         ∙ ap (λ t. pick t (Some (product k₂.left (select (earlier (width ws k₂.left) (test_of c)) k₂.right))) None) no)
 
-    pub test_into_left_made : within x.width (test_of c) ≡ true →
+    pub test_into_left_made : (now : List ℕ) (r : Option ℕ) → test_fits c x.width ≡ true →
         Puts (before ++ (six₂ ++ (six ++ (rest₂ ++ [])))) was now r → Turns ws TestIntoLeft before at was now r
-    test_into_left_made h put xs q w after s e =
+    test_into_left_made now r h put xs q w after s e =
         let k = one_inside ws at six rest after (Select c) b s e in
         let k₂ = two_inside ws rest six₂ rest₂ after Product b₂ k.written k.parts in
         let l = f k₂.left_signs k₂.left k₂.left_width _ k₂.left_written k₂.parts in
         let u = select_fits c k.from w k.fits in
         let v = product_fits k₂.left_width k₂.right_width k.from k₂.fits in
-        let yes : within (width ws k₂.left) (test_of c) ≡ true = ap (λ v. within v (test_of c)) (written_width k₂.left_written ∙ sym l.width) ∙ h in
-        let fits : test_fits c k₂.left_width ≡ true =
-        within_fits c k₂.left_width (ap (λ v. within v (test_of c)) (sym (written_width k₂.left_written)) ∙ yes) in
+        let fits : test_fits c k₂.left_width ≡ true = ap (test_fits c) (sym l.width) ∙ h in
+        let yes : within (width ws k₂.left) (test_of c) ≡ true =
+        within_is_fits c (width ws k₂.left) ∙ ap (test_fits c) (written_width k₂.left_written) ∙ fits in
         made ws TestIntoLeft before q w after was now r (product (select (test_of c) k₂.left) k₂.right)
         (six₂ ++ ((six ++ k₂.left_signs) ++ k₂.right_signs))
         (before ++ (six₂ ++ (six ++ (rest₂ ++ []))))
@@ -126,10 +111,10 @@ module _ (ws before at was now six rest : List ℕ) (r : Option ℕ) (c : Test) 
         (ap (λ us. before ++ (six₂ ++ (six ++ (us ++ [])))) k₂.parts ∙ simp (append_assoc, append-nil))
         put
 
-    pub test_into_right_made : (d : Test) (six₃ : List ℕ) → behind x.width (test_of c) ≡ true → test_of d ≡ earlier x.width (test_of c) →
+    pub test_into_right_made : (now : List ℕ) (r : Option ℕ) {d : Test} {six₃ : List ℕ} → behind x.width (test_of c) ≡ true → test_of d ≡ earlier x.width (test_of c) →
         Sign six₃ (One (Select d)) → Puts (before ++ (six₂ ++ (x.signs.now ++ (six₃ ++ (x.rest.now ++ []))))) was now r →
         Turns ws TestIntoRight before at was now r
-    test_into_right_made d six₃ h i sign put xs q w after s e =
+    test_into_right_made now r {d} {six₃} h i sign put xs q w after s e =
         let k = one_inside ws at six rest after (Select c) b s e in
         let k₂ = two_inside ws rest six₂ rest₂ after Product b₂ k.written k.parts in
         let l = f k₂.left_signs k₂.left k₂.left_width _ k₂.left_written k₂.parts in
@@ -152,9 +137,9 @@ module _ (ws before at was now six rest : List ℕ) (r : Option ℕ) (c : Test) 
         (rw (l.signs, l.rest) (simp (append_assoc, append-nil)))
         put
 
-  pub test_into_union_made : (six₂ rest₂ : List ℕ) (x : Inner) → Begun rest (Two Union) six₂ rest₂ → Ends ws rest₂ x →
+  pub test_into_union_made : (now : List ℕ) (r : Option ℕ) {six₂ rest₂ : List ℕ} {x : Inner} → Begun rest (Two Union) six₂ rest₂ → Ends ws rest₂ x →
       Puts (before ++ (six₂ ++ (six ++ (x.signs.now ++ (six ++ (x.rest.now ++ [])))))) was now r → Turns ws TestIntoUnion before at was now r
-  test_into_union_made six₂ rest₂ x b₂ f put xs q w after s e =
+  test_into_union_made now r {six₂} {rest₂} {x} b₂ f put xs q w after s e =
       let k = one_inside ws at six rest after (Select c) b s e in
       let k₂ = two_inside ws rest six₂ rest₂ after Union b₂ k.written k.parts in
       let l = f k₂.left_signs k₂.left k₂.left_width _ k₂.left_written k₂.parts in

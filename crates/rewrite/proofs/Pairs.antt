@@ -1,19 +1,20 @@
 -- What the steps on products and unions write. Assumes nothing.
-use Rattle.std.proofs.Common.{◌≡◌, ℕ, ◌+◌, ◌≤◌, false, List, [], ◌++◌, Some, None, Option, sym, refl, ap, ◌∙◌, append_assoc, arith, eq-eqb, le-leb}
+use Rattle.std.proofs.Common.{◌≡◌, ℕ, ◌+◌, ◌≤◌, List, [], ◌++◌, Some, None, Option, sym, refl, ap, ◌∙◌, append_assoc, arith, eq-eqb, le-leb}
 use Rattle.std.proofs.lemmas.List.{append-nil}
 use Rattle.query.specs.Query.{Query, product, union}
-use Rattle.query.specs.Operators.{operator_at, pair_width}
+use Rattle.query.specs.Operators.{pair_width, paired}
 use Rattle.query.specs.declared.operator.Operator.TheVariants.{Two}
 use Rattle.query.specs.declared.operator.Pairing.{Pairing}
 use Rattle.query.specs.declared.operator.Pairing.TheVariants.{Product, Union}
 use Rattle.query.proofs.Steps.{product_fits, union_fits}
+use Rattle.rewrite.specs.declared.Step.{Step}
 use Rattle.rewrite.specs.declared.Step.TheVariants.{UnionOutOfLeft, UnionOutOfRight, RegroupLeft, RegroupRight, SwapUnion}
 use Rattle.rewrite.specs.declared.signs.Inner.{Inner}
 use Rattle.rewrite.specs.Rewritten.{turned}
-use Rattle.rewrite.specs.Written.{Written, pairing, Begun, Taken, Puts, Turns, is_product, is_union}
+use Rattle.rewrite.specs.Written.{pairing, Begun, Takes, Puts, Turns}
 use Rattle.rewrite.proofs.Forms.{two_inside}
-use Rattle.rewrite.proofs.Skipping.{Cannot}
-use Rattle.rewrite.proofs.Turning.{no_product, no_union, not_turned, made}
+use Rattle.rewrite.proofs.Fronts.{Cannot}
+use Rattle.rewrite.proofs.Turning.{Unmade, not_turned, made}
 
 pub product_some : (a b w : ℕ) → w ≡ a + b → w ≤ 8 → Some w ≡ pair_width Product a b
 product_some a b w e h = let k : a + b ≤ 8 = omega arith in rw (le-leb (a + b) 8 k) (ap Some e)
@@ -23,34 +24,48 @@ union_some a b w e f = rw (eq-eqb a b e) (ap Some f)
 
 -- the query at the front of xs was taken off
 abbrev pub Ends : List ℕ → List ℕ → Inner → Type 0
-Ends ws xs x = (ys : List ℕ) (q : Query) (w : ℕ) (after : List ℕ) → Written ws ys q w → xs ≡ ys ++ after → Taken ys w after x
+Ends ws xs x = Takes ws xs (Some x)
 
 -- the queries that a product or a union needs are there
-module _ (ws at six rest : List ℕ) (j : Pairing) (b : Begun at (Two j) six rest) where
+module _ {ws at six rest : List ℕ} {j : Pairing} (b : Begun at (Two j) six rest) where
   pub left_there : Cannot ws rest → Cannot ws at
   left_there n xs q w after s e =
       let k = two_inside ws at six rest after j b s e in n k.left_signs k.left k.left_width _ k.left_written k.parts
 
-  pub right_there : (x : Inner) → Ends ws rest x → Cannot ws x.rest.now → Cannot ws at
-  right_there x f n xs q w after s e =
+  pub right_there : {x : Inner} → Ends ws rest x → Cannot ws x.rest.now → Cannot ws at
+  right_there f n xs q w after s e =
       let k = two_inside ws at six rest after j b s e in
       let l = f k.left_signs k.left k.left_width _ k.left_written k.parts in
       n k.right_signs k.right k.right_width after k.right_written l.rest
 
   -- and so are those that a product or a union on its left needs
-  pub third_there : (i : Pairing) (six₂ rest₂ : List ℕ) (x y : Inner) → Begun rest (Two i) six₂ rest₂ → Ends ws rest₂ x → Ends ws x.rest.now y →
+  pub third_there : {i : Pairing} {six₂ rest₂ : List ℕ} {x y : Inner} → Begun rest (Two i) six₂ rest₂ → Ends ws rest₂ x → Ends ws x.rest.now y →
       Cannot ws y.rest.now → Cannot ws at
-  third_there i six₂ rest₂ x y b₂ f g n xs q w after s e =
+  third_there {i} {six₂} {rest₂} b₂ f g n xs q w after s e =
       let k = two_inside ws at six rest after j b s e in
       let k₂ = two_inside ws rest six₂ rest₂ (k.right_signs ++ after) i b₂ k.left_written k.parts in
       let l = f k₂.left_signs k₂.left k₂.left_width _ k₂.left_written k₂.parts in
       let m = g k₂.right_signs k₂.right k₂.right_width _ k₂.right_written l.rest in
       n k.right_signs k.right k.right_width after k.right_written m.rest
 
-module _ (ws before at was now : List ℕ) (r : Option ℕ) where
-  pub swap_union_made : (six rest : List ℕ) (x y : Inner) → Begun at (Two Union) six rest → Ends ws rest x → Ends ws x.rest.now y →
+-- where a step makes nothing of any query with what stands on one side, it makes nothing of the whole
+module _ {ws before at was six rest : List ℕ} {s : Step} {j : Pairing} (b : Begun at (Two j) six rest) where
+  pub left_unturned : ((r : Query) → Unmade ws rest (λ l. turned ws s (paired j l r))) → Turns ws s before at was was None
+  left_unturned f xs q w after t e =
+      let k = two_inside ws at six rest after j b t e in
+      not_turned ws s before q w after was (ap (turned ws s) k.is ∙ f k.right k.left_signs k.left k.left_width _ k.left_written k.parts)
+
+  pub right_unturned : {x : Inner} → Ends ws rest x → ((l : Query) → Unmade ws x.rest.now (λ r. turned ws s (paired j l r))) →
+      Turns ws s before at was was None
+  right_unturned g f xs q w after t e =
+      let k = two_inside ws at six rest after j b t e in
+      let l = g k.left_signs k.left k.left_width _ k.left_written k.parts in
+      not_turned ws s before q w after was (ap (turned ws s) k.is ∙ f k.left k.right_signs k.right k.right_width after k.right_written l.rest)
+
+module _ {ws : List ℕ} (before : List ℕ) {at : List ℕ} (was : List ℕ) where
+  pub swap_union_made : (now : List ℕ) (r : Option ℕ) {six rest : List ℕ} {x y : Inner} → Begun at (Two Union) six rest → Ends ws rest x → Ends ws x.rest.now y →
       Puts (before ++ (six ++ (y.signs.now ++ (x.signs.now ++ (y.rest.now ++ []))))) was now r → Turns ws SwapUnion before at was now r
-  swap_union_made six rest x y b f g put xs q w after s e =
+  swap_union_made now r {six} {rest} {x} {y} b f g put xs q w after s e =
       let k = two_inside ws at six rest after Union b s e in
       let l = f k.left_signs k.left k.left_width _ k.left_written k.parts in
       let m = g k.right_signs k.right k.right_width after k.right_written l.rest in
@@ -63,22 +78,8 @@ module _ (ws before at was now : List ℕ) (r : Option ℕ) where
       put
 
   -- a product with a product on its right
-  module _ (six rest : List ℕ) (x : Inner) (b : Begun at (Two Product) six rest) (f : Ends ws rest x) where
-    pub no_right_product : is_product (operator_at x.rest.now) ≡ false → Turns ws RegroupLeft before at was was None
-    no_right_product n xs q w after s e =
-        let k = two_inside ws at six rest after Product b s e in
-        let l = f k.left_signs k.left k.left_width _ k.left_written k.parts in
-        not_turned ws RegroupLeft before q w after was
-        (ap (turned ws RegroupLeft) k.is ∙ no_product x.rest.now after n k.right_written l.rest _)
-
-    pub no_right_union : is_union (operator_at x.rest.now) ≡ false → Turns ws UnionOutOfRight before at was was None
-    no_right_union n xs q w after s e =
-        let k = two_inside ws at six rest after Product b s e in
-        let l = f k.left_signs k.left k.left_width _ k.left_written k.parts in
-        not_turned ws UnionOutOfRight before q w after was
-        (ap (turned ws UnionOutOfRight) k.is ∙ no_union x.rest.now after n k.right_written l.rest _)
-
-    module _ (six₂ rest₂ : List ℕ) where
+  module _ {six rest : List ℕ} {x : Inner} (b : Begun at (Two Product) six rest) (f : Ends ws rest x) where
+    module _ (now : List ℕ) (r : Option ℕ) {six₂ rest₂ : List ℕ} where
       pub regroup_left_made : Begun x.rest.now (Two Product) six₂ rest₂ →
           Puts (before ++ (six ++ (six₂ ++ (x.signs.now ++ (rest₂ ++ []))))) was now r → Turns ws RegroupLeft before at was now r
       regroup_left_made b₂ put xs q w after s e =
@@ -98,10 +99,10 @@ module _ (ws before at was now : List ℕ) (r : Option ℕ) where
           (ap (λ us. before ++ (six ++ (six₂ ++ (x.signs.now ++ (us ++ []))))) k₂.parts ∙ rw l.signs (simp (append_assoc, append-nil)))
           put
 
-      pub union_out_of_right_made : (y : Inner) → Begun x.rest.now (Two Union) six₂ rest₂ → Ends ws rest₂ y →
+      pub union_out_of_right_made : {y : Inner} → Begun x.rest.now (Two Union) six₂ rest₂ → Ends ws rest₂ y →
           Puts (before ++ (six₂ ++ (six ++ (x.signs.now ++ (y.signs.now ++ (six ++ (x.signs.now ++ (y.rest.now ++ [])))))))) was now r →
           Turns ws UnionOutOfRight before at was now r
-      union_out_of_right_made y b₂ g put xs q w after s e =
+      union_out_of_right_made {y} b₂ g put xs q w after s e =
           let k = two_inside ws at six rest after Product b s e in
           let l = f k.left_signs k.left k.left_width _ k.left_written k.parts in
           let k₂ = two_inside ws x.rest.now six₂ rest₂ after Union b₂ k.right_written l.rest in
@@ -121,22 +122,10 @@ module _ (ws before at was now : List ℕ) (r : Option ℕ) where
           put
 
   -- a product with a product, or a union, on its left
-  module _ (six rest : List ℕ) (b : Begun at (Two Product) six rest) where
-    pub no_left_product : is_product (operator_at rest) ≡ false → Turns ws RegroupRight before at was was None
-    no_left_product n xs q w after s e =
-        let k = two_inside ws at six rest after Product b s e in
-        not_turned ws RegroupRight before q w after was
-        (ap (turned ws RegroupRight) k.is ∙ no_product rest (k.right_signs ++ after) n k.left_written k.parts _)
-
-    pub no_left_union : is_union (operator_at rest) ≡ false → Turns ws UnionOutOfLeft before at was was None
-    no_left_union n xs q w after s e =
-        let k = two_inside ws at six rest after Product b s e in
-        not_turned ws UnionOutOfLeft before q w after was
-        (ap (turned ws UnionOutOfLeft) k.is ∙ no_union rest (k.right_signs ++ after) n k.left_written k.parts _)
-
-    pub regroup_right_made : (six₂ rest₂ : List ℕ) (x : Inner) → Begun rest (Two Product) six₂ rest₂ → Ends ws rest₂ x →
+  module _ {six rest : List ℕ} (b : Begun at (Two Product) six rest) where
+    pub regroup_right_made : (now : List ℕ) (r : Option ℕ) {six₂ rest₂ : List ℕ} {x : Inner} → Begun rest (Two Product) six₂ rest₂ → Ends ws rest₂ x →
         Puts (before ++ (six ++ (x.signs.now ++ (six₂ ++ (x.rest.now ++ []))))) was now r → Turns ws RegroupRight before at was now r
-    regroup_right_made six₂ rest₂ x b₂ f put xs q w after s e =
+    regroup_right_made now r {six₂} {rest₂} {x} b₂ f put xs q w after s e =
         let k = two_inside ws at six rest after Product b s e in
         let k₂ = two_inside ws rest six₂ rest₂ (k.right_signs ++ after) Product b₂ k.left_written k.parts in
         let l = f k₂.left_signs k₂.left k₂.left_width _ k₂.left_written k₂.parts in
@@ -152,11 +141,11 @@ module _ (ws before at was now : List ℕ) (r : Option ℕ) where
         (rw (l.signs, l.rest) (simp (append_assoc, append-nil)))
         put
 
-    pub union_out_of_left_made : (six₂ rest₂ : List ℕ) (x y z : Inner) → Begun rest (Two Union) six₂ rest₂ →
+    pub union_out_of_left_made : (now : List ℕ) (r : Option ℕ) {six₂ rest₂ : List ℕ} {x y z : Inner} → Begun rest (Two Union) six₂ rest₂ →
         Ends ws rest₂ x → Ends ws x.rest.now y → Ends ws y.rest.now z →
         Puts (before ++ (six₂ ++ (six ++ (x.signs.now ++ (z.signs.now ++ (six ++ (y.signs.now ++ (y.rest.now ++ [])))))))) was now r →
         Turns ws UnionOutOfLeft before at was now r
-    union_out_of_left_made six₂ rest₂ x y z b₂ f g h put xs q w after s e =
+    union_out_of_left_made now r {six₂} {rest₂} {x} {y} {z} b₂ f g h put xs q w after s e =
         let k = two_inside ws at six rest after Product b s e in
         let k₂ = two_inside ws rest six₂ rest₂ (k.right_signs ++ after) Union b₂ k.left_written k.parts in
         let l = f k₂.left_signs k₂.left k₂.left_width _ k₂.left_written k₂.parts in

@@ -2,7 +2,7 @@
 use Rattle.std.proofs.Common.{◌≡◌, ℕ, zero, suc, ◌+◌, ◌-◌, ◌*◌, ◌<◌, ◌≤◌, Bool, true, false, ltb, List, [], ◌++◌, length, Some, None, sym, refl, ap, ◌∙◌, subst, append_assoc, arith, ltb-false, ltb-true, le-ltb, lt-ltb}
 use Rattle.std.proofs.lemmas.List.{append-nil, length-append}
 use Rattle.query.specs.Query.{Query, scan, select, project, product, union}
-use Rattle.query.specs.Operators.{change_width, pair_width, changed, paired}
+use Rattle.query.specs.Operators.{Sign, change_width, pair_width, changed, paired}
 use Rattle.query.specs.declared.operator.Operator.TheVariants.{One, Two}
 use Rattle.query.specs.declared.operator.Change.{Change}
 use Rattle.query.specs.declared.operator.Change.TheVariants.{Select, Project}
@@ -10,7 +10,7 @@ use Rattle.query.specs.declared.operator.Pairing.{Pairing}
 use Rattle.query.specs.declared.operator.Pairing.TheVariants.{Product, Union}
 use Rattle.provenance.specs.Rewriting.{Replaced, here, unchanged, in_select, in_project, in_product, in_union}
 use Rattle.rewrite.specs.Rewritten.{size, at_place, put_at}
-use Rattle.rewrite.specs.Written.{Sign, Written, scanned, changing, pairing}
+use Rattle.rewrite.specs.Written.{Written, scanned, changing, pairing}
 use Rattle.rewrite.proofs.Forms.{written_long}
 
 -- no query begins behind the last operator

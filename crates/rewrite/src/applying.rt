@@ -3,39 +3,29 @@ ghost use Rattle.rewrite.specs.Outcome.{Steps};
 ghost use Rattle.rewrite.specs.Written.{Makes};
 
 use crate::Step;
-use crate::products::{
-    regroup_left, regroup_right, swap_union, union_out_of_left, union_out_of_right,
-};
-use crate::projections::{join_projections, test_below_projection};
-use crate::selections::{swap_tests, test_into_left, test_into_right, test_into_union};
-use query::parse;
+use crate::site::Site;
+use query::{SIGNS, parse};
 use tables::fit;
 
-/// How many numbers an operator takes.
-const SIGNS: usize = 6;
-
-/// Makes a step at the query at the front of `at`, and writes what stands before it, what is made of it, and what comes after it.
-fn apply_at<'a>(
-    tables: &[u64],
-    before: &'a [u64],
-    at: &'a [u64],
-    step: Step,
-    into: &mut [u64],
-) -> Option<usize>
-    ensures { Makes tables.now step before.now at.now into.old into.new result }
-{
-    match step {
-        Step::SwapTests => swap_tests(tables, before, at, into),
-        Step::TestIntoLeft => test_into_left(tables, before, at, into),
-        Step::TestIntoRight => test_into_right(tables, before, at, into),
-        Step::TestIntoUnion => test_into_union(tables, before, at, into),
-        Step::UnionOutOfLeft => union_out_of_left(tables, before, at, into),
-        Step::UnionOutOfRight => union_out_of_right(tables, before, at, into),
-        Step::RegroupLeft => regroup_left(tables, before, at, into),
-        Step::RegroupRight => regroup_right(tables, before, at, into),
-        Step::SwapUnion => swap_union(tables, before, at, into),
-        Step::TestBelowProjection => test_below_projection(tables, before, at, into),
-        Step::JoinProjections => join_projections(tables, before, at, into),
+impl Site<'_> {
+    /// Makes a step at the query at this place, and writes what stands before it, what is made of it, and what comes after it.
+    // A match on the kinds of steps: the caller gives the step as a value of a closed enum, so closures in its place would be no plainer.
+    fn make(self, step: Step, into: &mut [u64]) -> Option<usize>
+        ensures { Makes step self.entry into.old into.new result }
+    {
+        match step {
+            Step::SwapTests => self.swap_tests(into),
+            Step::TestIntoLeft => self.test_into_left(into),
+            Step::TestIntoRight => self.test_into_right(into),
+            Step::TestIntoUnion => self.test_into_union(into),
+            Step::UnionOutOfLeft => self.union_out_of_left(into),
+            Step::UnionOutOfRight => self.union_out_of_right(into),
+            Step::RegroupLeft => self.regroup_left(into),
+            Step::RegroupRight => self.regroup_right(into),
+            Step::SwapUnion => self.swap_union(into),
+            Step::TestBelowProjection => self.test_below_projection(into),
+            Step::JoinProjections => self.join_projections(into),
+        }
     }
 }
 
@@ -51,15 +41,12 @@ pub fn apply(
 ) -> Option<usize>
     ensures { Steps tables.now signs.now step place into.old into.new result }
 {
-    let Ok(_) = fit(tables) else {
-        return None;
-    };
-    let Ok(_) = parse(tables, signs) else {
-        return None;
-    };
+    let tables = fit(tables).ok()?;
+    parse(tables.memory, signs).ok()?;
     if place >= signs.len() / SIGNS {
         return None;
     }
     let (before, at) = signs.split_at(SIGNS * place);
-    apply_at(tables, before, at, step, into)
+    let site = Site { tables, before, at };
+    site.make(step, into)
 }

@@ -2,10 +2,12 @@
 #![tactic(auto)]
 
 mod applying;
+mod columns;
 mod products;
 mod projections;
 mod selections;
 mod signs;
+mod site;
 mod write;
 
 pub use applying::apply;

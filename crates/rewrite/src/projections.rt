@@ -1,107 +1,35 @@
 //! Steps on projections.
-ghost use Rattle.std.specs.Prelude.{◌≡◌, slice_index};
-ghost use Rattle.provenance.specs.Rewriting.{through};
-ghost use Rattle.query.specs.Operators.{test_of};
-ghost use Rattle.query.specs.declared.operator.Operator.TheVariants.{One};
-ghost use Rattle.query.specs.declared.operator.Change.TheVariants.{Project};
-ghost use Rattle.rewrite.specs.Written.{Sign, Makes};
+ghost use Rattle.rewrite.specs.Written.{Makes};
 ghost use Rattle.rewrite.specs.declared.Step.TheVariants.{TestBelowProjection, JoinProjections};
 
-use crate::selections::selection;
+use crate::columns::test_through;
 use crate::signs::{project_at, select_at};
-use crate::write::put_with;
-use query::{Test, keep_cells};
+use crate::site::Site;
+use crate::write::put;
+use query::{Change, Operator, SIGNS, keep_cells};
 
-/// How many columns a projection keeps at most.
-const MAX_KEPT: u64 = 4;
-
-/// The column at a place among some columns, and 0 past their end.
-fn column(columns: &[u64], place: u64) -> u64
-    ensures { result ≡ slice_index columns.now place }
-{
-    match columns.get(place as usize) {
-        Some(column) => *column,
-        None => 0,
+impl Site<'_> {
+    /// A test of the columns that a projection keeps is made before it.
+    pub fn test_below_projection(self, into: &mut [u64]) -> Option<usize>
+        ensures { Makes TestBelowProjection self.entry into.old into.new result }
+    {
+        let selected = select_at(self.at)?;
+        let projected = project_at(selected.rest)?;
+        let columns = projected.kept_columns()?;
+        let test = test_through(selected.test, columns);
+        let moved = <[u64; SIGNS]>::from(Operator::One(Change::Select(test)));
+        put(&[self.before, projected.sign, &moved, projected.rest], into)
     }
-}
 
-/// What a test says of some columns of a row, as a test of the row.
-fn test_through(test: Test, columns: &[u64]) -> Test
-    ensures { test_of result ≡ through columns.now (test_of test) }
-{
-    match test {
-        Test::Same(a, b) => Test::Same(column(columns, a), column(columns, b)),
-        Test::Is(a, n) => Test::Is(column(columns, a), n),
-        Test::Below(a, n) => Test::Below(column(columns, a), n),
+    /// Two projections become one.
+    pub fn join_projections(self, into: &mut [u64]) -> Option<usize>
+        ensures { Makes JoinProjections self.entry into.old into.new result }
+    {
+        let outer = project_at(self.at)?;
+        let inner = project_at(outer.rest)?;
+        let mut columns = [0; 4];
+        keep_cells(outer.kept_columns()?, inner.kept_columns()?, &mut columns);
+        let joined = <[u64; SIGNS]>::from(Operator::One(Change::Project(outer.kept, columns)));
+        put(&[self.before, &joined, inner.rest], into)
     }
-}
-
-/// The signs of a projection to the first `kept` of some columns.
-fn projection(kept: u64, columns: [u64; 4]) -> [u64; 6]
-    ensures { Sign result (One (Project kept columns)) }
-{
-    [4, kept, columns[0], columns[1], columns[2], columns[3]]
-}
-
-/// A test of the columns that a projection keeps is made before it.
-pub fn test_below_projection<'a>(
-    tables: &[u64],
-    before: &'a [u64],
-    at: &'a [u64],
-    into: &mut [u64],
-) -> Option<usize>
-    ensures { Makes tables.now TestBelowProjection before.now at.now into.old into.new result }
-{
-    let Some(selected) = select_at(at) else {
-        return None;
-    };
-    let Some(projected) = project_at(selected.rest) else {
-        return None;
-    };
-    if projected.kept > MAX_KEPT {
-        return None;
-    }
-    let columns = projected.columns;
-    let test = test_through(selected.test, &columns[0..projected.kept as usize]);
-    let moved = selection(test);
-    put_with(
-        before,
-        projected.sign,
-        &at[0..0],
-        &moved,
-        projected.rest,
-        into,
-    )
-}
-
-/// Two projections become one.
-pub fn join_projections<'a>(
-    tables: &[u64],
-    before: &'a [u64],
-    at: &'a [u64],
-    into: &mut [u64],
-) -> Option<usize>
-    ensures { Makes tables.now JoinProjections before.now at.now into.old into.new result }
-{
-    let Some(outer) = project_at(at) else {
-        return None;
-    };
-    let Some(inner) = project_at(outer.rest) else {
-        return None;
-    };
-    if outer.kept > MAX_KEPT {
-        return None;
-    }
-    if inner.kept > MAX_KEPT {
-        return None;
-    }
-    let (outer_columns, inner_columns) = (outer.columns, inner.columns);
-    let mut columns = [0; 4];
-    keep_cells(
-        &outer_columns[0..outer.kept as usize],
-        &inner_columns[0..inner.kept as usize],
-        &mut columns,
-    );
-    let sign = projection(outer.kept, columns);
-    put_with(before, &sign, &at[0..0], &at[0..0], inner.rest, into)
 }

@@ -27,12 +27,8 @@ const TURNED: [u64; 6] = [4, 2, 1, 0, 0, 0];
 /// The operators of a query, one behind another.
 fn flat(operators: &[[u64; 6]]) -> [u64; 96] {
     let mut signs = [0; 96];
-    for i in 0..operators.len() {
-        if i < 16 {
-            for k in 0..6 {
-                signs[6 * i + k] = operators[i][k];
-            }
-        }
+    for (place, operator) in signs.chunks_exact_mut(6).zip(operators) {
+        place.copy_from_slice(operator);
     }
     signs
 }
@@ -43,13 +39,7 @@ fn made(old: &[[u64; 6]], step: Step, place: usize) -> (Option<usize>, [u64; 96]
     if old.len() > 16 {
         return (None, into);
     }
-    let told = apply(
-        &TABLES,
-        &flat(old)[0..6 * old.len()],
-        step,
-        place,
-        &mut into,
-    );
+    let told = apply(&TABLES, &flat(old)[..6 * old.len()], step, place, &mut into);
     (told, into)
 }
 

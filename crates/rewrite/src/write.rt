@@ -1,6 +1,6 @@
 //! Writing what a step makes.
 ghost use Rattle.std.specs.Prelude.{◌≡◌, ℕ, ◌≤◌, List, ◌++◌, length, drop};
-ghost use Rattle.rewrite.specs.Written.{together, five, Counts, Puts};
+ghost use Rattle.rewrite.specs.Written.{together, Counts, Puts};
 
 /// How many numbers a query has at most.
 const MAX_SIGNS: usize = 96;
@@ -9,14 +9,11 @@ const MAX_SIGNS: usize = 96;
 fn length_within(parts: &[&[u64]], room: usize) -> Option<usize>
     ensures { Counts (length (together parts.now)) room result }
 {
-    let mut length = 0;
+    let mut left = room;
     for part in parts {
-        if part.len() > room - length {
-            return None;
-        }
-        length += part.len();
+        left = left.checked_sub(part.len())?;
     }
-    Some(length)
+    Some(room - left)
 }
 
 /// Writes the parts one behind another to the front of `into`.
@@ -24,11 +21,12 @@ fn copy(parts: &[&[u64]], into: &mut [u64])
     requires { length (together parts.now) ≤ length into.old }
     ensures { into.new ≡ together parts.now ++ drop (length (together parts.now)) into.old }
 {
-    let mut start = 0;
-    for part in parts {
-        into[start..start + part.len()].copy_from_slice(part);
-        start += part.len();
-    }
+    let [part, others @ ..] = parts else {
+        return;
+    };
+    let (front, rest) = into.split_at_mut(part.len());
+    front.copy_from_slice(part);
+    copy(others, rest);
 }
 
 /// Writes the parts one behind another to the front of `into`, if they fit there and are no more than a query may have.
@@ -39,19 +37,4 @@ pub fn put(parts: &[&[u64]], into: &mut [u64]) -> Option<usize>
     let length = length_within(parts, room)?;
     copy(parts, into);
     Some(length)
-}
-
-/// Writes two parts that stand before a changed operator, that operator, and what comes after it, if they fit.
-pub fn put_with<'a>(
-    before: &'a [u64],
-    sign: &'a [u64],
-    left: &'a [u64],
-    changed: &'a [u64],
-    rest: &'a [u64],
-    into: &mut [u64],
-) -> Option<usize>
-    ensures { Puts (five before.now sign.now left.now changed.now rest.now)
-        into.old into.new result }
-{
-    put(&[before, sign, left, changed, rest], into)
 }

@@ -1,0 +1,20 @@
+use Rattle.std.proofs.Common.{sym}
+use Rattle.rewrite.proofs.Turning.{no_test, no_product, unturned, not_there}
+use Rattle.rewrite.proofs.Pairs.{left_there}
+use Rattle.rewrite.proofs.Moved.{below_there, below_unturned, not_within, test_into_left_made}
+use Rattle.rewrite.proofs.site.Site.test_into_left.Goals as goal
+
+pub returns-in_err-selected : goal.returns-in_err-selected
+returns-in_err-selected c = rw c.from_residual.ensures (unturned (no_test c.in_err-selected.ensures _))
+
+pub returns-in_err-product : goal.returns-in_err-product
+returns-in_err-product c = rw c.from_residual-in_err-product.ensures (below_unturned c.in_ok-selected.ensures (no_product c.in_err-product.ensures _))
+
+pub returns-in_err-left : goal.returns-in_err-left
+returns-in_err-left c = rw c.from_residual-in_err-left.ensures (not_there (below_there c.in_ok-selected.ensures (left_there c.in_ok-product.ensures c.in_err-left.ensures)))
+
+pub returns-then-not-fits : goal.returns-then-not-fits
+returns-then-not-fits c = not_within _ _ c.in_ok-selected.ensures c.in_ok-product.ensures c.in_ok-left.ensures (sym c.if-not-fits.ensures)
+
+pub returns : goal.returns
+returns c = test_into_left_made _ _ c.in_ok-selected.ensures c.in_ok-product.ensures c.in_ok-left.ensures _ _ (sym c.if-not-fits.ensures) c.put.ensures
