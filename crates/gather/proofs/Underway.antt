@@ -1,5 +1,5 @@
 -- Equal neighbours brought together, entry by entry. Assumes nothing.
-use Rattle.std.proofs.Common.{◌≡◌, ℕ, ◌+◌, ◌-◌, ◌*◌, ◌<◌, ◌≤◌, true, false, List, [], ◌∷◌, ◌++◌, length, get_or, drop, sym, refl, ap, ◌∙◌, subst, mul-le-mul, arith}
+use Rattle.std.proofs.Common.{◌≡◌, ℕ, ◌+◌, ◌-◌, ◌*◌, ◌<◌, ◌≤◌, true, false, List, [], ◌∷◌, ◌++◌, length, get_or, drop, sym, refl, ap, ◌∙◌, subst, arith}
 use Rattle.std.specs.List.{AllByRecursion}
 use Rattle.std.proofs.ByRecursion.{All-get_or, All-drop, All-push, All-weaker}
 use Rattle.std.proofs.lemmas.List.{append_assoc, get_or-map, drop_more, drop_all, nil_from_length}
@@ -70,16 +70,6 @@ module _ (rows : List Answer) (w : ℕ) (m0 hints0 out0 : List ℕ) (order : InO
       }
 
   module _ (m hints out : List ℕ) (last : Answer) (n i : ℕ) (g : Underway rows w m0 m hints0 hints out0 out last n i) where
-    -- there is room for the row that is still to come
-    pub underway_space : 1 + (1 + w) * (n + 1) ≤ length out
-    underway_space =
-        let few = g.few in
-        let within = g.within in
-        let long = g.long in
-        let space = ready.space in
-        let least : (1 + w) * (n + 1) ≤ (1 + w) * length rows = mul-le-mul (omega arith) (omega arith) in
-        omega arith
-
     further : drop (1 + (1 + w) * (n + 1)) out ≡ drop (1 + (1 + w) * (n + 1)) out0
     further = drop_further (1 + (1 + w) * n) (1 + (1 + w) * (n + 1)) out out0 (omega arith) g.behind
 
@@ -90,14 +80,6 @@ module _ (rows : List Answer) (w : ℕ) (m0 hints0 out0 : List ℕ) (order : InO
 
       pub underway_counted : (last.node < count_in m) × (y.node < count_in m)
       underway_counted = (g.counted, let k = next_known in let more = g.store.more in omega arith)
-
-      pub underway_room : 4 + 3 * count_in m ≤ length m
-      underway_room =
-          let few = g.few in
-          let long = g.store.long in
-          let least = g.store.few in
-          let room = ready.nodes in
-          omega arith
 
       next_row : y.row ≡ get_or (rows_of rows) i []
       next_row = rw is (row_of_at i h)

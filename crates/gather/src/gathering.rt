@@ -43,7 +43,7 @@ fn gather_by<'a>(
 }
 
 /// Gathers at most 64 rows.
-// Three functions, and none by a const parameter: an array of references whose length is one gets no proof.
+// Three functions, and none by a const parameter: an array of references gets no proof there, and sorting places was 1.8 times slower.
 fn gather_few(work: &[u64], rows: Region, circuit: &mut Circuit<'_>, out: &mut [u64]) -> usize
     requires few { rows.count ≤ 64 }
     requires within { (rows.width ≤ 8) × (9 * (rows.first + rows.count) ≤ length work.now) }

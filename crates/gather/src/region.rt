@@ -17,6 +17,7 @@ pub fn load<'a>(work: &'a [u64], rows: Region, entries: &mut [Entry<'a>])
     requires long { length entries.old ≡ rows.count }
     ensures { map answer_of entries.new ≡ region_rows work.now rows }
 {
+    // By place, and no `iter_mut`: once such a walk is zipped with another, the prover knows nothing of what it wrote.
     for (i, row) in rows.part(work).chunks_exact(SPAN).enumerate() {
         entries[i] = Entry {
             cells: &row[1..1 + rows.width],

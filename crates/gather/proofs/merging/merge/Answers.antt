@@ -3,7 +3,7 @@ use Rattle.std.proofs.lemmas.List.{length-map, get_or-map, get_or-take, get_or-d
 use Rattle.std.proofs.lemmas.Bool.Decides.{not_from_Decides}
 use Rattle.gather.specs.declared.region.Entry.{Entry}
 use Rattle.gather.specs.Gathered.{answer_of}
-use Rattle.gather.proofs.Underway.{underway_none, underway_space, underway_counted, underway_room, underway_joins, underway_apart, underway_all, merged_none, memory_same, memory_over, merging_meets}
+use Rattle.gather.proofs.Underway.{underway_none, underway_counted, underway_joins, underway_apart, underway_all, merged_none, memory_same, memory_over, merging_meets}
 use Rattle.gather.proofs.merging.merge.Goals as goal
 use Rattle.gather.proofs.merging.merge.Goals.{then-equal, else-equal}
 
@@ -35,23 +35,11 @@ loop-entry-init c =
       memory_same c.args.circuit.now,
     )
 
-pub join-requires : goal.join-requires
-join-requires c =
+pub join-requires-clause-counted : goal.join-requires-clause-counted
+join-requires-clause-counted c =
     let l = long c.args.entries.now in
-    let i = c.loop-entry.entry-index + 1 in
-    let there : i < length (map answer_of c.args.entries.now) = omega arith in
     let is = next_is c.args.entries.now c.loop-entry.entry-index (omega arith) in
-    let g = c.loop-entry.invariant.0 in
-    record {
-      store = g.store.proper;
-      counted = underway_counted _ _ _ _ _ c.requires.order c.requires.wide c.requires.ready _ _ _ _ _ _ g there _ is;
-      room = underway_room _ _ _ _ _ c.requires.order c.requires.wide c.requires.ready _ _ _ _ _ _ g there _ is;
-    }
-
-pub write_row-requires : goal.write_row-requires
-write_row-requires c =
-    let g = c.loop-entry.invariant.0 in
-    record { wide = g.wide; space = underway_space _ _ _ _ _ c.requires.order c.requires.wide c.requires.ready _ _ _ _ _ _ g }
+    underway_counted _ _ _ _ _ c.requires.order c.requires.wide c.requires.ready _ _ _ _ _ _ c.loop-entry.invariant.0 (omega arith) _ is
 
 pub loop-entry-preserved : goal.loop-entry-preserved
 loop-entry-preserved c =
@@ -75,11 +63,6 @@ loop-entry-preserved c =
             memory,
           )
     ]
-
-pub write_row-requires-2 : goal.write_row-requires-2
-write_row-requires-2 c =
-    let g = c.loop-entry.invariant.0 in
-    record { wide = g.wide; space = underway_space _ _ _ _ _ c.requires.order c.requires.wide c.requires.ready _ _ _ _ _ _ g }
 
 pub returns-clause-merged : goal.returns-clause-merged
 returns-clause-merged c =
