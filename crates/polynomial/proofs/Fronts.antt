@@ -1,7 +1,6 @@
 -- Two polynomials that stand last way first, taken apart from their fronts. Assumes nothing.
-use Rattle.std.proofs.Common.{◌≡◌, ◌+◌, ◌-◌, ◌^◌, ◌<◌, Bool, true, false, ltb, List, [], ◌∷◌, ◌++◌, length, get_or, take, is_some, Some, None, Ok, vec_items, Option, sym, ap, ◌∙◌, subst, arith}
-use Rattle.std.specs.Option.{option_to_list}
-use Rattle.std.proofs.lemmas.Bool.Decides.{nat_tests}
+use Rattle.std.proofs.Common.{◌≡◌, ℕ, ◌+◌, ◌-◌, ◌^◌, ◌<◌, Bool, true, false, List, [], ◌∷◌, ◌++◌, length, get_or, take, Some, None, Ok, vec_items, Option, sym, ap, ◌∙◌, subst, ap₂, arith}
+use Rattle.std.specs.Option.{option_to_list, MatchOption}
 use Rattle.std.specs.List.{AllByRecursion}
 use Rattle.std.proofs.lemmas.List.{reverse-append, take_more, take_all, nil_from_length, length_push}
 use Rattle.std.proofs.lemmas.Bool.{false≢true}
@@ -29,8 +28,8 @@ else_after a b e f = go (rank a b) e f
 abbrev pub below : List Way → List Way
 below a = take (length a - 1) a
 
-pub last_split : (a : List Way) (x : Way) → 0 < length a → x ≡ get_or a (length a - 1) x → a ≡ below a ++ x ∷ []
-last_split a x h e =
+split_last : (a : List Way) (x : Way) → 0 < length a → x ≡ get_or a (length a - 1) x → a ≡ below a ++ x ∷ []
+split_last a x h e =
     let n : length a - 1 + 1 ≡ length a = omega arith in
     let l : length a - 1 < length a = omega arith in
     let t = take_more a (length a - 1) x l in
@@ -116,27 +115,34 @@ module _ (a b c d : List Way) (x y : Way) (e : a ≡ c ++ x ∷ []) (f : b ≡ d
   pub take_large : vec_items x.marks ≡ vec_items y.marks → (x.count + y.count < 2 ^ 64 → ⊥) → AllByRecursion Small (sum (queue a) (queue b)) → ⊥
   take_large t large small = large (subst (AllByRecursion Small) (both_first t) small).0
 
+-- what is popped stood last
 pub popped : (a c : List Way) (r : Option Way) (x : Way) → a ≡ c ++ option_to_list r → r ≡ Some x → a ≡ c ++ x ∷ []
 popped a c r x e s = e ∙ ap (λ (z : Option Way). c ++ option_to_list z) s
 
-pub front_left : (a b c : List Way) (r : Option Way) → length b ≡ 0 → proper (queue a) ≡ true → proper (queue b) ≡ true → a ≡ c ++ option_to_list r →
-    (is_some r ≡ ltb 0 (length a)) → Front a b c b (Ok r)
-front_left a b c None h p q e t = nothing a b (grind (arith, nat_tests)) h
-front_left a b c (Some x) h p q e t = alone_left a b c x h p q e
+-- the last way x of the list v, which is a, is popped from a, whose length is n
+pub last_popped : (v a : List Way) (n : ℕ) (x : Way) (r : Option Way) → v ≡ a → n ≡ length a → 0 < length v → ((w : Way) → x ≡ get_or v (length v - 1) w) →
+    ((w : Way) → 0 < n → r ≡ Some (get_or a (n - 1) w)) → r ≡ Some x
+last_popped v a n x r s l h e f =
+    let k : n ≡ length v = l ∙ ap length (sym s) in
+    f x (omega arith) ∙ ap Some (ap₂ (λ (z : List Way) (m : ℕ). get_or z (m - 1) x) (sym s) k ∙ sym (e x))
 
-pub front_right : (a b d : List Way) (r : Option Way) → length a ≡ 0 → proper (queue a) ≡ true → proper (queue b) ≡ true → b ≡ d ++ option_to_list r →
-    (is_some r ≡ ltb 0 (length b)) → Front a b a d (Ok r)
-front_right a b d None h p q e t = nothing a b h (grind (arith, nat_tests))
-front_right a b d (Some y) h p q e t = alone_right a b d y h p q e
+pub last_split : (v a : List Way) (x : Way) → v ≡ a → 0 < length v → ((w : Way) → x ≡ get_or v (length v - 1) w) → a ≡ below a ++ x ∷ []
+last_split v a x s h e = subst (λ (z : List Way). z ≡ below z ++ x ∷ []) s (split_last v x h (e x))
 
-pub front_less : (a b c : List Way) (x y : Way) (r : Option Way) → proper (queue a) ≡ true → proper (queue b) ≡ true → a ≡ c ++ option_to_list r → r ≡ Some x →
-    0 < length b → y ≡ get_or b (length b - 1) y → before (vec_items x.marks) (vec_items y.marks) ≡ true → Front a b c b (Ok r)
-front_less a b c x y r p q e s h f t =
-    subst (λ (z : Option Way). Front a b c b (Ok z)) (sym s)
-    (take_less a b c (below b) x y (popped a c r x e s) (last_split b y h f) p q t)
+pub front_left : (a b c : List Way) (n k : ℕ) (r : Option Way) → length b ≡ 0 → n ≡ length a → proper (queue a) ≡ true → proper (queue b) ≡ true →
+    a ≡ c ++ option_to_list r → MatchOption r ((n ≡ 0) × (k ≡ 0)) (λ _. k + 1 ≡ n) → Front a b c b (Ok r)
+front_left a b c n k None h l p q e m = nothing a b (sym l ∙ m.0) h
+front_left a b c n k (Some x) h l p q e m = alone_left a b c x h p q e
 
-pub front_greater : (a b d : List Way) (x y : Way) (r : Option Way) → proper (queue a) ≡ true → proper (queue b) ≡ true → b ≡ d ++ option_to_list r → r ≡ Some y →
-    0 < length a → x ≡ get_or a (length a - 1) x → before (vec_items y.marks) (vec_items x.marks) ≡ true → Front a b a d (Ok r)
-front_greater a b d x y r p q e s h f t =
-    subst (λ (z : Option Way). Front a b a d (Ok z)) (sym s)
-    (take_greater a b (below a) d x y (last_split a x h f) (popped b d r y e s) p q t)
+pub front_right : (a b d : List Way) (n k : ℕ) (r : Option Way) → length a ≡ 0 → n ≡ length b → proper (queue a) ≡ true → proper (queue b) ≡ true →
+    b ≡ d ++ option_to_list r → MatchOption r ((n ≡ 0) × (k ≡ 0)) (λ _. k + 1 ≡ n) → Front a b a d (Ok r)
+front_right a b d n k None h l p q e m = nothing a b h (sym l ∙ m.0)
+front_right a b d n k (Some y) h l p q e m = alone_right a b d y h p q e
+
+pub front_is : (a b c d : List Way) (w : Way) (r : Option Way) → r ≡ Some w → Taken a b c d w → Front a b c d (Ok r)
+front_is a b c d w r e t = subst (λ (z : Option Way). Front a b c d (Ok z)) (sym e) t
+
+-- the marks of what is popped are those that were compared
+pub same_marks : (x y u w : Way) (r s : Option Way) → r ≡ Some x → s ≡ Some y → r ≡ Some u → s ≡ Some w → vec_items u.marks ≡ vec_items w.marks →
+    vec_items x.marks ≡ vec_items y.marks
+same_marks x y u w r s a b d e m = let p : x ≡ u = cc in let q : y ≡ w = cc in rw (p, q) m

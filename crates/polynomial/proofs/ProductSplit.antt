@@ -1,5 +1,5 @@
 -- A product by parts: the product of a polynomial cut in two is the sum of two products, and each fits where the whole does. Assumes nothing.
-use Rattle.std.proofs.Common.{◌≡◌, ℕ, ◌+◌, ◌*◌, ◌<◌, ◌≤◌, true, List, [], ◌∷◌, ◌++◌, Err, sym, refl, subst, add-mul, mul-pos, mul-add, arith}
+use Rattle.std.proofs.Common.{◌≡◌, ℕ, ◌+◌, ◌*◌, ◌<◌, ◌≤◌, true, List, [], ◌∷◌, ◌++◌, Err, sym, refl, subst, add-mul, mul-pos, arith}
 use Rattle.std.specs.List.{AllByRecursion}
 use Rattle.query.specs.Semiring.{Count}
 use Rattle.query.proofs.Named.{count_lawful}
@@ -55,13 +55,6 @@ split_left a b q r s =
     (sum_rising (multiplied a q) (multiplied b q) (multiplied_rising a q (rising_front a b r) s) (multiplied_rising b q (rising_back a b r) s))
     (multiplied_rising (a ++ b) q r s)
     (λ v. rw (sum_counts v, product_counts v a q, product_counts v b q, product_counts v (a ++ b) q, append_counts v a b) (sym (add-mul (counts v a) (counts v b) (counts v q))))
-
-pub split_right : (p a b : List Monomial) → Rising p → Rising (a ++ b) → sum (multiplied p a) (multiplied p b) ≡ multiplied p (a ++ b)
-split_right p a b s r =
-    counted_one (sum (multiplied p a) (multiplied p b)) (multiplied p (a ++ b))
-    (sum_rising (multiplied p a) (multiplied p b) (multiplied_rising p a s (rising_front a b r)) (multiplied_rising p b s (rising_back a b r)))
-    (multiplied_rising p (a ++ b) s r)
-    (λ v. rw (sum_counts v, product_counts v p a, product_counts v p b, product_counts v p (a ++ b), append_counts v a b) (sym (mul-add (counts v p) (counts v a) (counts v b))))
 
 -- one monomial more makes no polynomial smaller
 put_grows : (m : Monomial) (xs : List Monomial) → size_of xs ≤ size_of (put_monomial m xs)

@@ -3,11 +3,14 @@ ghost use Rattle.std.specs.Prelude.{◌≡◌};
 ghost use Rattle.polynomial.specs.declared.error.PolynomialError.TheVariants.{Memory};
 
 use std::alloc::{AllocError, AllocFailed};
+use thiserror::Error;
 
 /// Why no polynomial was made: there was no memory; or it is larger than the room, or a count passes 2^64 - 1.
-#[derive(Drop)]
+#[derive(Clone, Copy, PartialEq, Eq, Debug, Error)]
 pub enum PolynomialError {
+    #[error("no memory is left")]
     Memory,
+    #[error("the polynomial is larger than the room, or a count passes 2^64 - 1")]
     TooLarge,
 }
 

@@ -4,7 +4,7 @@ use Rattle.polynomial.specs.declared.Way.{Way}
 use Rattle.polynomial.specs.Rise.{proper, rise}
 use Rattle.polynomial.specs.Ways.{monomial, times}
 use Rattle.polynomial.proofs.ProductSplit.{times_some, times_rise}
-use Rattle.polynomial.proofs.products.multiply_only.Goals as goal
+use Rattle.polynomial.proofs.room.Room.multiply_only.Goals as goal
 
 -- the product of two ways counts at least once, and its marks rise
 proper_product : (x y w : Way) → proper (monomial x ∷ []) ≡ true → proper (monomial y ∷ []) ≡ true → monomial w ≡ times (monomial x) (monomial y) →
