@@ -74,9 +74,6 @@ only_one [] x l e = absurd (omega arith)
 only_one (y ∷ []) x l e = ap (λ (z : Way). z ∷ []) (sym e)
 only_one (y ∷ z ∷ zs) x l e = absurd (omega arith)
 
-pub only_proper : (a : List Way) (x : Way) → length a ≡ 1 → x ≡ get_or a 0 x → proper (monomials a) ≡ true → proper (monomial x ∷ []) ≡ true
-only_proper a x l e p = subst (λ (z : List Way). proper (monomials z) ≡ true) (only_one a x l e) p
-
 pub told_only : (room : ℕ) (a b : List Way) (x y : Way) (r : Result Polynomial PolynomialError) → length a ≡ 1 → length b ≡ 1 → x ≡ get_or a 0 x → y ≡ get_or b 0 y →
     Told room (times (monomial x) (monomial y) ∷ []) r → Told room (multiplied (monomials a) (monomials b)) r
 told_only room a b x y r l k e f t =

@@ -6,12 +6,12 @@ use Rattle.ways.proofs.expansion.expand_node.Goals as goal
 pub returns-in_ok-q-in-Or : goal.returns-in_ok-q-in-Or
 returns-in_ok-q-in-Or c =
     let l = subst (NamesEarlier (length c.args.made.now)) c.in-Or.is c.requires in
-    told_or c.args.room c.args.made.now c.in-Or.a c.in-Or.b c.index-made-a.result c.index-made-b.result c.args.node c.add.result
+    told_or _ _ _ _ c.index-made-a.result c.index-made-b.result _ _
     l.0 l.1 c.index-made-a.is c.index-made-b.is c.in_ok-p-in-Or.p c.in_ok-q-in-Or.q
-    c.in_ok-p-in-Or.ensures c.in_ok-q-in-Or.ensures c.in-Or.is c.add.ensures
+    c.in_ok-p-in-Or.ensures.cases c.in_ok-q-in-Or.ensures.cases c.in-Or.is c.add.ensures
 
 pub returns-in-Both : goal.returns-in-Both
 returns-in-Both c =
     let l = subst (NamesEarlier (length c.args.made.now)) c.in-Both.is c.requires in
-    told_both c.args.room c.args.made.now c.in-Both.a c.in-Both.b c.index-made-a-in-Both.result c.index-made-b-in-Both.result c.args.node
-    c.multiply.result l.0 l.1 c.index-made-a-in-Both.is c.index-made-b-in-Both.is c.in-Both.is c.multiply.ensures
+    told_both _ _ _ _ c.index-made-a-in-Both.result c.index-made-b-in-Both.result _
+    _ l.0 l.1 c.index-made-a-in-Both.is c.index-made-b-in-Both.is c.in-Both.is c.multiply.ensures
