@@ -1,5 +1,5 @@
 -- A product by parts: the product of a polynomial cut in two is the sum of two products, and each fits where the whole does. Assumes nothing.
-use Rattle.std.proofs.Common.{◌≡◌, ℕ, ◌+◌, ◌*◌, ◌<◌, ◌≤◌, true, List, [], ◌∷◌, ◌++◌, Err, sym, refl, subst, add-mul, mul-pos, arith}
+use Rattle.std.proofs.Common.{◌≡◌, ℕ, ◌+◌, ◌*◌, ◌≤◌, true, List, [], ◌∷◌, ◌++◌, Err, sym, refl, subst, add-mul, arith}
 use Rattle.std.specs.List.{AllByRecursion}
 use Rattle.query.specs.Semiring.{Count}
 use Rattle.query.proofs.Named.{count_lawful}
@@ -93,12 +93,9 @@ unfolding multiplied scaled sum
 times_none [] = refl
 times_none (x ∷ p) = times_none p
 
--- the product of two well-formed monomials is well-formed
-pub times_some : (m x : Monomial) → proper (m ∷ []) ≡ true → proper (x ∷ []) ≡ true → 0 < m.count * x.count
-times_some m x p q = mul-pos (proper_rising (m ∷ []) p).some (proper_rising (x ∷ []) q).some
-
-pub times_rise : (m x : Monomial) → proper (x ∷ []) ≡ true → rise (merged m.marks x.marks) ≡ true
-times_rise m x q = sorted_rise (merged m.marks x.marks) (merged_sorted m.marks x.marks (proper_rising (x ∷ []) q).sorted)
+-- the marks of the product of two well-formed monomials rise
+pub product_rise : (ks : List ℕ) (x : Monomial) → proper (x ∷ []) ≡ true → rise (merged ks x.marks) ≡ true
+product_rise ks x q = sorted_rise (merged ks x.marks) (merged_sorted ks x.marks (proper_rising (x ∷ []) q).sorted)
 
 -- a part that does not fit is of a whole that does not
 pub told_part : (room : ℕ) (part whole : List Monomial) → (FitsIn room whole → FitsIn room part) → (e : PolynomialError) → Told room part (Err e) → Told room whole (Err e)

@@ -1,8 +1,8 @@
 -- How large polynomials are. Assumes nothing.
-use Rattle.std.proofs.Common.{◌≡◌, ℕ, ◌+◌, ◌≤◌, List, [], ◌∷◌, ◌++◌, length, refl, arith}
+use Rattle.std.proofs.Common.{◌≡◌, ◌+◌, ◌≤◌, List, [], ◌∷◌, ◌++◌, length, refl, arith}
 use Rattle.std.specs.List.{AllByRecursion}
 use Rattle.provenance.specs.Polynomial.{Monomial}
-use Rattle.polynomial.specs.Rise.{size_of, FitsIn}
+use Rattle.polynomial.specs.Rise.{size_of}
 
 pub size_push : (ms : List Monomial) (m : Monomial) → size_of (ms ++ m ∷ []) ≡ 2 + length m.marks + size_of ms
 size_push [] m = refl

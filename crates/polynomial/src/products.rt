@@ -1,28 +1,13 @@
 //! Products of polynomials.
 ghost use Rattle.std.specs.Prelude.{◌≡◌, true, [], ◌∷◌};
 ghost use Rattle.provenance.specs.Polynomial.{multiplied};
-ghost use Rattle.polynomial.specs.Rise.{proper, rise};
-ghost use Rattle.polynomial.specs.Told.{poly, Told, Made};
+ghost use Rattle.polynomial.specs.Rise.{proper};
+ghost use Rattle.polynomial.specs.Told.{poly, Told};
 ghost use Rattle.polynomial.specs.Ways.{monomial, monomials, times};
 
 use crate::error::PolynomialError;
 use crate::marks::merge;
 use crate::{Polynomial, Room, Way};
-use std::alloc::Global;
-
-/// The product of two ways.
-fn multiply_way(heap: Global, x: &Way, y: &Way) -> Result<Way, PolynomialError>
-    requires left { rise x.now.marks.items ≡ true }
-    requires right { rise y.now.marks.items ≡ true }
-    ensures { Made (times (monomial x.now) (monomial y.now)) result }
-{
-    let count = x
-        .count
-        .checked_mul(y.count)
-        .ok_or(PolynomialError::TooLarge)?;
-    let marks = merge(heap, &x.marks, &y.marks)?;
-    Ok(Way { count, marks })
-}
 
 impl Room {
     /// The product of two polynomials with one way each.
@@ -31,8 +16,12 @@ impl Room {
         requires right { proper (monomial y.now ∷ []) ≡ true }
         ensures { Told self.numbers (times (monomial x.now) (monomial y.now) ∷ []) result }
     {
-        let way = multiply_way(self.heap, x, y)?;
-        self.only(way)
+        let count = x
+            .count
+            .checked_mul(y.count)
+            .ok_or(PolynomialError::TooLarge)?;
+        let marks = merge(self.heap, &x.marks, &y.marks)?;
+        self.only(Way { count, marks })
     }
 
     /// The product of two polynomials whose ways stand in two slices. A row of products does not rise in general, so the ways of

@@ -43,9 +43,8 @@ impl Room {
         requires rises { rise way.marks.items ≡ true }
         ensures { Told self.numbers (monomial way ∷ []) result }
     {
-        if self.larger(1, way.marks.len()).is_none() {
-            return Err(PolynomialError::TooLarge);
-        }
+        self.larger(1, way.marks.len())
+            .ok_or(PolynomialError::TooLarge)?;
         let ways = vec![in self.heap; way]?;
         Ok(Polynomial { ways })
     }

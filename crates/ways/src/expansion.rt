@@ -61,6 +61,7 @@ impl Target<'_> {
         self.expand_next(room, wanted, &made)
     }
 
+    // Three rows by place, and not one row of structs: each is filled by a pass of its own, and the next pass reads all of it.
     /// The normal form of this node.
     fn normal_form(self, room: Room) -> Result<Polynomial, PolynomialError>
         ensures { Told room.numbers (normal_at self.entry.store.nodes.now self.entry.node) result }
@@ -81,11 +82,13 @@ pub fn ways(heap: Global, nodes: &[u64], node: u64, room: usize) -> Result<Vec<W
     if node >= store.count() {
         return Err(WaysError::Node(node));
     }
-    let target = Target { store, node };
-    let numbers = room;
-    match target.normal_form(Room { heap, numbers }) {
+    let room = Room {
+        heap,
+        numbers: room,
+    };
+    match (Target { store, node }).normal_form(room) {
         Ok(normal) => Ok(normal.ways),
         Err(PolynomialError::Memory) => Err(WaysError::Memory),
-        Err(PolynomialError::TooLarge) => Err(WaysError::Room(room)),
+        Err(PolynomialError::TooLarge) => Err(WaysError::Room(room.numbers)),
     }
 }
