@@ -6,7 +6,7 @@ ghost use Rattle.ways.specs.Asked.{Asked};
 ghost use Rattle.ways.specs.Passes.{normal_at, node_normal, next_normal, Wanted};
 
 use crate::WaysError;
-use crate::target::Target;
+use crate::root::Root;
 use circuit::{Node, check_store};
 use polynomial::{Polynomial, PolynomialError, Room, Way};
 use std::alloc::Global;
@@ -29,7 +29,7 @@ fn expand_node(room: Room, node: Node, made: &[Polynomial]) -> Result<Polynomial
     }
 }
 
-impl Target<'_> {
+impl Root<'_> {
     /// The polynomial of the node behind those that are made, if it is wanted, and else none.
     fn expand_next(
         self,
@@ -86,7 +86,7 @@ pub fn ways(heap: Global, nodes: &[u64], node: u64, room: usize) -> Result<Vec<W
         heap,
         numbers: room,
     };
-    match (Target { store, node }).normal_form(room) {
+    match (Root { store, node }).normal_form(room) {
         Ok(normal) => Ok(normal.ways),
         Err(PolynomialError::Memory) => Err(WaysError::Memory),
         Err(PolynomialError::TooLarge) => Err(WaysError::Room(room.numbers)),

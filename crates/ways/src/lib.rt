@@ -5,7 +5,7 @@ mod error;
 mod expansion;
 mod flat;
 mod passes;
-mod target;
+mod root;
 mod text;
 
 pub use error::WaysError;

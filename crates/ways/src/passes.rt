@@ -3,7 +3,7 @@ ghost use Rattle.std.specs.Prelude.{◌≡◌, ◌+◌, false, length, replicate
 ghost use Rattle.circuit.specs.Held.{NamesEarlier};
 ghost use Rattle.ways.specs.Passes.{empty_node, Empties, wanted_with, Wanted};
 
-use crate::target::Target;
+use crate::root::Root;
 use circuit::Node;
 use std::alloc::{AllocError, Global};
 
@@ -35,7 +35,7 @@ fn want_named(wanted: &mut [bool], empty: &[bool], node: Node)
     }
 }
 
-impl Target<'_> {
+impl Root<'_> {
     /// Which of the nodes up to this one come to nothing.
     pub(crate) fn empties(self, heap: Global) -> Result<Vec<bool>, AllocError>
         ensures { IfOk result (λ v. Empties self.entry.store.nodes.now (self.entry.node + 1) v.items) }

@@ -4,9 +4,9 @@ ghost use Rattle.circuit.specs.Held.{count_in};
 
 use circuit::Store;
 
-/// A node of a store: the one whose ways are asked for.
+/// A node of a store, whose ways are asked for: the root of what is expanded.
 #[derive(Clone, Copy)]
-pub(crate) struct Target<'a> {
+pub(crate) struct Root<'a> {
     pub store: Store<'a>,
     pub node: u64,
     ghost counted: { node < count_in store.nodes.now },
