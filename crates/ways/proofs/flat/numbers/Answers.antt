@@ -12,7 +12,5 @@ loop-way-preserved c =
     c.way-item.is c.deref.ensures.value l c.loop-way.invariant c.in_ok-push.ensures.items c.in_ok-push-2.ensures.items
     c.in_ok-extend_from_slice.ensures.items
 
-pub returns : goal.returns
-returns c =
-    let e = written_all c.args.ways.now c.loop-way.way-index _ c.loop-way-test.false c.loop-way.invariant in
-    record { written = e; long = numbers_long _ _ e }
+pub returns-clause-long : goal.returns-clause-long
+returns-clause-long c = numbers_long _ _ (written_all c.args.ways.now c.loop-way.way-index _ c.loop-way-test.false c.loop-way.invariant)

@@ -1,4 +1,4 @@
-use Rattle.ways.proofs.Lines.{ways_none, ways_more, ways_all}
+use Rattle.ways.proofs.Lines.{ways_none, ways_more}
 use Rattle.ways.proofs.text.write_ways.Goals as goal
 
 pub loop-way-init : goal.loop-way-init
@@ -9,6 +9,3 @@ loop-way-preserved c =
     ways_more _ _ _ _ _ c.args.ways.now c.loop-way.way-index c.way-item.result c.deref.result.now c.loop-way-test.true c.way-item.is
     c.deref.ensures.value c.loop-way.invariant c.in_ok-write.ensures.bytes c.in_ok-write_count.ensures
     c.in_ok-write_marks.ensures
-
-pub returns : goal.returns
-returns c = ways_all _ _ c.args.ways.now c.loop-way.way-index c.loop-way-test.false c.loop-way.invariant
