@@ -13,7 +13,9 @@ use std::alloc::Global;
 /// What a polynomial may take: memory, and so many numbers.
 #[derive(Clone, Copy)]
 pub struct Room {
+    /// The memory that it is made in.
     pub heap: Global,
+    /// The most numbers that it may take when it is written.
     pub numbers: usize,
 }
 

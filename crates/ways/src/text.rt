@@ -1,4 +1,5 @@
 //! A row and its ways as text.
+// Pushed to the line's String, and no Display of a way, which would be no plainer: how numbers are parted is shared with the rows.
 ghost use Rattle.std.specs.Prelude.{◌≡◌, ◌++◌, IfOk, string_bytes, OnOk};
 ghost use Rattle.polynomial.specs.Ways.{monomials};
 ghost use Rattle.ways.specs.Text.{led, parted, count_text, marks_text, ways_text, line_text};

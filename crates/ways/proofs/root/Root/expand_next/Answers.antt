@@ -2,7 +2,6 @@ use Rattle.std.proofs.Common.{length, arith}
 use Rattle.ways.proofs.Nothing.{names_within}
 use Rattle.ways.proofs.root.Root.expand_next.Goals as goal
 
-
 pub expand_node-requires : goal.expand_node-requires
 expand_node-requires c =
     let l = c.args.self.counted in
