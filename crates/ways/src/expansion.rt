@@ -1,5 +1,5 @@
 //! The normal form of a node.
-ghost use Rattle.std.specs.Prelude.{◌≤◌, map, length};
+ghost use Rattle.std.specs.Prelude.{◌<◌, ◌≤◌, map, length};
 ghost use Rattle.circuit.specs.Held.{NamesEarlier};
 ghost use Rattle.polynomial.specs.Told.{poly, Told};
 ghost use Rattle.ways.specs.Asked.{Asked};
@@ -37,8 +37,8 @@ impl Root<'_> {
         wanted: &[bool],
         made: &[Polynomial],
     ) -> Result<Polynomial, PolynomialError>
-        requires wants { Wanted self.store.nodes.now self.node wanted.now }
         requires before { length made.now ≤ self.node }
+        requires within { length made.now < length wanted.now }
         ensures { Told room.numbers (next_normal self.entry.store.nodes.now wanted.now (map poly made.now)) result }
     {
         let place = made.len();

@@ -1,5 +1,5 @@
 //! Which nodes come to nothing, and which have to be expanded.
-ghost use Rattle.std.specs.Prelude.{◌≡◌, ◌+◌, false, length, replicate, IfOk};
+ghost use Rattle.std.specs.Prelude.{◌≡◌, ◌+◌, length, IfOk};
 ghost use Rattle.circuit.specs.Held.{NamesEarlier};
 ghost use Rattle.ways.specs.Passes.{empty_node, Empties, wanted_with, Wanted};
 
@@ -48,29 +48,20 @@ impl Root<'_> {
         Ok(empty)
     }
 
-    /// Says of each node whether it has to be expanded for this one, where `empty` says of each up to it whether it comes to nothing.
-    /// A node that comes to nothing is not expanded, and neither is one that is named only by such nodes.
-    fn want_all(self, wanted: &mut [bool], empty: &[bool])
-        requires empties { Empties self.store.nodes.now (self.node + 1) empty.now }
-        requires blank { wanted.old ≡ replicate (self.node + 1) false }
-        ensures { Wanted self.entry.store.nodes.now self.entry.node wanted.new }
-    {
-        wanted[self.node as usize] = !empty[self.node as usize];
-        // By place, since a node changes the row that is gone over, at earlier places.
-        for place in (0..empty.len()).rev() {
-            if wanted[place] {
-                want_named(wanted, empty, self.store.node(place as u64));
-            }
-        }
-    }
-
     /// Which nodes have to be expanded for this one, where `empty` says of each up to it whether it comes to nothing.
+    /// A node that comes to nothing is not expanded, and neither is one that is named only by such nodes.
     pub(crate) fn wants(self, heap: Global, empty: &[bool]) -> Result<Vec<bool>, AllocError>
         requires { Empties self.store.nodes.now (self.node + 1) empty.now }
         ensures { IfOk result (λ v. Wanted self.entry.store.nodes.now self.entry.node v.items) }
     {
         let mut wanted = vec![in heap; false; empty.len()]?;
-        self.want_all(&mut wanted, empty);
+        wanted[self.node as usize] = !empty[self.node as usize];
+        // By place, since a node changes the row that is gone over, at earlier places.
+        for place in (0..empty.len()).rev() {
+            if wanted[place] {
+                want_named(&mut wanted, empty, self.store.node(place as u64));
+            }
+        }
         Ok(wanted)
     }
 }
