@@ -1,15 +1,15 @@
 -- A sum that is written way by way, within the room, while its two sides are taken apart. Assumes nothing.
-use Rattle.std.proofs.Common.{◌≡◌, ℕ, ◌+◌, ◌≤◌, true, List, [], ◌∷◌, ◌++◌, reverse, length, Some, None, Ok, Err, Option, sym, refl, ap, ◌∙◌, subst, append_assoc, arith}
+use Rattle.std.proofs.Common.{◌≡◌, ℕ, ◌+◌, ◌≤◌, true, List, [], ◌∷◌, ◌++◌, length, Some, None, Ok, Err, Option, sym, refl, ap, ◌∙◌, subst, append_assoc, arith}
 use Rattle.std.specs.List.{AllByRecursion}
 use Rattle.std.proofs.ByRecursion.{All-push}
-use Rattle.std.proofs.lemmas.List.{append-nil, reverse-reverse}
+use Rattle.std.proofs.lemmas.List.{append-nil}
 use Rattle.provenance.specs.Polynomial.{Monomial, sum}
 use Rattle.provenance.proofs.Rising.{sum_rising}
 use Rattle.polynomial.specs.declared.error.PolynomialError.{PolynomialError}
 use Rattle.polynomial.specs.declared.error.PolynomialError.TheVariants.{Memory, TooLarge}
 use Rattle.polynomial.specs.declared.Way.{Way}
 use Rattle.polynomial.specs.Rise.{proper, size_of, Small, FitsIn}
-use Rattle.polynomial.specs.Ways.{monomial, monomials}
+use Rattle.polynomial.specs.Ways.{monomial}
 use Rattle.polynomial.specs.Told.{Told}
 use Rattle.polynomial.specs.Fronts.{queue, Taken, Front}
 use Rattle.polynomial.proofs.ProperRising.{proper_rising, rising_proper}
@@ -69,13 +69,6 @@ front_some a b c d o w e n = subst (λ (z : Option Way). Front a b c d (Ok z)) e
 
 pub front_none : (a b c d : List Way) (o : Option Way) → o ≡ None → Front a b c d (Ok o) → sum (queue a) (queue b) ≡ []
 front_none a b c d o e n = subst (λ (z : Option Way). Front a b c d (Ok z)) e n
-
--- a polynomial that is turned round
-pub turned : (xs rs : List Way) → rs ≡ reverse xs → queue rs ≡ monomials xs
-turned xs rs e = ap queue e ∙ ap monomials (reverse-reverse xs)
-
-pub turned_proper : (xs rs : List Way) → rs ≡ reverse xs → proper (monomials xs) ≡ true → proper (queue rs) ≡ true
-turned_proper xs rs e p = subst (λ (z : List Monomial). proper z ≡ true) (sym (turned xs rs e)) p
 
 pub sum_proper : (xs ys : List Monomial) → proper xs ≡ true → proper ys ≡ true → proper (sum xs ys) ≡ true
 sum_proper xs ys p q = rising_proper (sum xs ys) (sum_rising xs ys (proper_rising xs p) (proper_rising ys q))
