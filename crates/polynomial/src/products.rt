@@ -9,6 +9,7 @@ use crate::error::PolynomialError;
 use crate::marks::merge;
 use crate::{Polynomial, Room, Way};
 
+// That the ways are proper is a clause of two functions here, and no type: nothing else would take one of borrowed ways.
 impl Room {
     /// The product of two polynomials with one way each.
     fn multiply_only(self, x: &Way, y: &Way) -> Result<Polynomial, PolynomialError>
