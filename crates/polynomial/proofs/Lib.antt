@@ -5,6 +5,7 @@ pub mod Sizes
 pub mod ProductSplit
 mod ProductHalves
 mod Fronts
+mod Checked
 mod AddLoop
-mod CopyLoop
+mod CopiedWays
 pub mod Factors

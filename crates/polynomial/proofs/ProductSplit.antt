@@ -1,5 +1,5 @@
 -- A product by parts: the product of a polynomial cut in two is the sum of two products, and each fits where the whole does. Assumes nothing.
-use Rattle.std.proofs.Common.{◌≡◌, ℕ, ◌+◌, ◌*◌, ◌<◌, ◌≤◌, true, List, [], ◌∷◌, ◌++◌, Err, sym, refl, subst, add-mul, mul-pos, mul-add, arith}
+use Rattle.std.proofs.Common.{◌≡◌, ℕ, ◌+◌, ◌*◌, ◌≤◌, true, List, [], ◌∷◌, ◌++◌, Err, sym, refl, subst, add-mul, arith}
 use Rattle.std.specs.List.{AllByRecursion}
 use Rattle.query.specs.Semiring.{Count}
 use Rattle.query.proofs.Named.{count_lawful}
@@ -56,13 +56,6 @@ split_left a b q r s =
     (multiplied_rising (a ++ b) q r s)
     (λ v. rw (sum_counts v, product_counts v a q, product_counts v b q, product_counts v (a ++ b) q, append_counts v a b) (sym (add-mul (counts v a) (counts v b) (counts v q))))
 
-pub split_right : (p a b : List Monomial) → Rising p → Rising (a ++ b) → sum (multiplied p a) (multiplied p b) ≡ multiplied p (a ++ b)
-split_right p a b s r =
-    counted_one (sum (multiplied p a) (multiplied p b)) (multiplied p (a ++ b))
-    (sum_rising (multiplied p a) (multiplied p b) (multiplied_rising p a s (rising_front a b r)) (multiplied_rising p b s (rising_back a b r)))
-    (multiplied_rising p (a ++ b) s r)
-    (λ v. rw (sum_counts v, product_counts v p a, product_counts v p b, product_counts v p (a ++ b), append_counts v a b) (sym (mul-add (counts v p) (counts v a) (counts v b))))
-
 -- one monomial more makes no polynomial smaller
 put_grows : (m : Monomial) (xs : List Monomial) → size_of xs ≤ size_of (put_monomial m xs)
 unfolding put_monomial
@@ -100,12 +93,9 @@ unfolding multiplied scaled sum
 times_none [] = refl
 times_none (x ∷ p) = times_none p
 
--- the product of two well-formed monomials is well-formed
-pub times_some : (m x : Monomial) → proper (m ∷ []) ≡ true → proper (x ∷ []) ≡ true → 0 < m.count * x.count
-times_some m x p q = mul-pos (proper_rising (m ∷ []) p).some (proper_rising (x ∷ []) q).some
-
-pub times_rise : (m x : Monomial) → proper (x ∷ []) ≡ true → rise (merged m.marks x.marks) ≡ true
-times_rise m x q = sorted_rise (merged m.marks x.marks) (merged_sorted m.marks x.marks (proper_rising (x ∷ []) q).sorted)
+-- the marks of the product of two well-formed monomials rise
+pub product_rise : (ks : List ℕ) (x : Monomial) → proper (x ∷ []) ≡ true → rise (merged ks x.marks) ≡ true
+product_rise ks x q = sorted_rise (merged ks x.marks) (merged_sorted ks x.marks (proper_rising (x ∷ []) q).sorted)
 
 -- a part that does not fit is of a whole that does not
 pub told_part : (room : ℕ) (part whole : List Monomial) → (FitsIn room whole → FitsIn room part) → (e : PolynomialError) → Told room part (Err e) → Told room whole (Err e)

@@ -1,8 +1,8 @@
 -- How large polynomials are. Assumes nothing.
-use Rattle.std.proofs.Common.{◌≡◌, ℕ, ◌+◌, ◌≤◌, List, [], ◌∷◌, ◌++◌, length, refl, arith}
+use Rattle.std.proofs.Common.{◌≡◌, ◌+◌, ◌≤◌, List, [], ◌∷◌, ◌++◌, length, refl, arith}
 use Rattle.std.specs.List.{AllByRecursion}
 use Rattle.provenance.specs.Polynomial.{Monomial}
-use Rattle.polynomial.specs.Rise.{size_of, FitsIn}
+use Rattle.polynomial.specs.Rise.{size_of}
 
 pub size_push : (ms : List Monomial) (m : Monomial) → size_of (ms ++ m ∷ []) ≡ 2 + length m.marks + size_of ms
 size_push [] m = refl
@@ -19,6 +19,3 @@ size_append (x ∷ xs) ys = omega (arith, size_append xs ys)
 pub all_right : (P : Monomial → Type 0) (xs ys : List Monomial) → AllByRecursion P (xs ++ ys) → AllByRecursion P ys
 all_right P [] ys a = a
 all_right P (x ∷ xs) ys a = all_right P xs ys a.1
-
-pub no_room : (ms : List Monomial) (room : ℕ) → room ≡ 0 → FitsIn room ms → ⊥
-no_room ms room e f = omega (arith, size_some ms)

@@ -3,10 +3,9 @@ use Rattle.std.specs.Prelude.{◌≡◌, ℕ, List, Ok, Err, vec_items, Result}
 use Rattle.provenance.specs.Polynomial.{Monomial}
 use Rattle.polynomial.specs.declared.error.PolynomialError.{PolynomialError}
 use Rattle.polynomial.specs.declared.error.PolynomialError.TheVariants.{Memory, TooLarge}
-use Rattle.polynomial.specs.declared.Way.{Way}
 use Rattle.polynomial.specs.declared.Polynomial.{Polynomial}
-use Rattle.polynomial.specs.Rise.{Small, FitsIn}
-use Rattle.polynomial.specs.Ways.{monomial, monomials}
+use Rattle.polynomial.specs.Rise.{FitsIn}
+use Rattle.polynomial.specs.Ways.{monomials}
 
 -- the polynomial of the theory that the code holds
 abbrev pub poly : Polynomial → List Monomial
@@ -17,9 +16,3 @@ abbrev pub Told : ℕ → List Monomial → Result Polynomial PolynomialError �
 Told room ms (Ok p) = (poly p ≡ ms) × FitsIn room ms
 Told room ms (Err Memory) = Unit {0}
 Told room ms (Err TooLarge) = FitsIn room ms → ⊥
-
--- a way that stands for m, if its count fits
-abbrev pub Made : Monomial → Result Way PolynomialError → Type 0
-Made m (Ok w) = monomial w ≡ m
-Made m (Err Memory) = Unit {0}
-Made m (Err TooLarge) = Small m → ⊥

@@ -1,30 +1,16 @@
-//! Copies of ways and of polynomials.
-ghost use Rattle.std.specs.Prelude.{◌≡◌, IfOk};
+//! Copies of polynomials.
+ghost use Rattle.std.specs.Prelude.{◌≡◌};
 ghost use Rattle.polynomial.specs.Told.{poly};
-ghost use Rattle.polynomial.specs.Ways.{monomial};
 
-use crate::{Polynomial, Way};
-use std::alloc::{AllocError, Global};
+use crate::Polynomial;
+use std::alloc::AllocError;
 
-/// The same way again, in memory of its own.
-fn copy_way(heap: Global, way: &Way) -> Result<Way, AllocError>
-    ensures { IfOk result (λ w. monomial w ≡ monomial way.now) }
-{
-    let marks = Vec::from_slice(heap, way.marks.as_slice())?;
-    Ok(Way {
-        count: way.count,
-        marks,
-    })
-}
+// By hand: nothing derives the copy of a type with a ghost field.
+impl Clone for Polynomial {
+    ghost is_clone = { λ p q. poly q ≡ poly p };
 
-/// The same polynomial again, in memory of its own.
-pub fn copy(heap: Global, p: &Polynomial) -> Result<Polynomial, AllocError>
-    ensures { IfOk result (λ c. poly c ≡ poly p.now) }
-{
-    let mut ways = Vec::new(heap);
-    for way in p.ways.as_slice() {
-        let copy = copy_way(heap, way)?;
-        ways.push(copy)?;
+    fn clone(&self) -> Result<Polynomial, AllocError> {
+        let ways = self.ways.clone()?;
+        Ok(Polynomial { ways })
     }
-    Ok(Polynomial { ways })
 }

@@ -3,11 +3,16 @@ ghost use Rattle.std.specs.Prelude.{◌≡◌};
 ghost use Rattle.polynomial.specs.declared.error.PolynomialError.TheVariants.{Memory};
 
 use std::alloc::{AllocError, AllocFailed};
+use thiserror::Error;
 
-/// Why no polynomial was made: there was no memory; or it is larger than the room, or a count passes 2^64 - 1.
-#[derive(Drop)]
+/// Why no polynomial was made.
+#[derive(Clone, Copy, PartialEq, Eq, Debug, Error)]
 pub enum PolynomialError {
+    /// There was no memory.
+    #[error("no memory is left")]
     Memory,
+    /// It takes more numbers than the room, or a count passes 2^64 - 1.
+    #[error("the polynomial is larger than the room, or a count passes 2^64 - 1")]
     TooLarge,
 }
 

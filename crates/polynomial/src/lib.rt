@@ -9,15 +9,14 @@ mod copies;
 mod error;
 mod marks;
 mod products;
+mod room;
 mod sums;
 
-pub use copies::copy;
 pub use error::PolynomialError;
-pub use products::{always, mark, multiply, never};
-pub use sums::add;
+pub use room::Room;
 
 /// One way in which a row comes about: the marks that it uses, rising, a mark as often as it is used, and how often that way occurs.
-#[derive(Drop)]
+#[derive(Clone, Drop)]
 pub struct Way {
     pub count: u64,
     pub marks: Vec<u64>,

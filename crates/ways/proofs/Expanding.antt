@@ -1,7 +1,7 @@
 -- Nodes expanded from the first on. Assumes nothing.
 use Rattle.std.proofs.Common.{◌≡◌, ℕ, ◌+◌, ◌<◌, ◌≤◌, Bool, true, false, ◌⊎◌, List, [], ◌∷◌, ◌++◌, map, length, get_or, Err, Result, sym, refl, ap, ◌∙◌, subst, ap₂, inl, inr, arith}
 use lib.ListN.{length-map}
-use Rattle.std.proofs.lemmas.List.{get_or-map, get_or_push, get_or_append_left, length_push, map_push}
+use Rattle.std.proofs.lemmas.List.{get_or_push, get_or_append_left, length_push, map_push}
 use Rattle.std.proofs.lemmas.Bool.{false≢true, cases_eq, cases_Bool}
 use Rattle.circuit.specs.declared.Node.{Node}
 use Rattle.circuit.specs.declared.Node.TheVariants.{Never, Always, Mark, Or, Both}
@@ -18,39 +18,11 @@ use Rattle.polynomial.proofs.ProductSplit.{told_part}
 use Rattle.ways.specs.Passes.{normal_at, node_at, OfNamed, Covered, Wanted, node_normal, next_normal}
 use Rattle.ways.proofs.Nothing.{normal_of}
 
-poly_at : (ps : List Polynomial) (a : ℕ) (x : Polynomial) → a < length ps → x ≡ get_or ps a x → poly x ≡ get_or (map poly ps) a []
-poly_at ps a x h e = ap poly e ∙ sym (get_or-map poly ps a x [] h)
-
--- a sum or a product of expanded nodes
-module _ (room : ℕ) (ps : List Polynomial) (a b : ℕ) (x y : Polynomial) (n : Node) (r : Result Polynomial PolynomialError)
-    (h : a < length ps) (k : b < length ps) (e : x ≡ get_or ps a x) (f : y ≡ get_or ps b y) where
-  pub told_or : (p q : Polynomial) → poly p ≡ poly x → poly q ≡ poly y → n ≡ Or a b → Told room (sum (poly p) (poly q)) r →
-      Told room (node_normal (map poly ps) n) r
-  told_or p q c d g t =
-      subst (λ (z : Node). Told room (node_normal (map poly ps) z) r) (sym g)
-      (subst (λ (z : List Monomial). Told room z r) (ap₂ sum (c ∙ poly_at ps a x h e) (d ∙ poly_at ps b y k f)) t)
-
-  pub told_both : n ≡ Both a b → Told room (multiplied (poly x) (poly y)) r → Told room (node_normal (map poly ps) n) r
-  told_both g t =
-      subst (λ (z : Node). Told room (node_normal (map poly ps) z) r) (sym g)
-      (subst (λ (z : List Monomial). Told room z r) (ap₂ multiplied (poly_at ps a x h e) (poly_at ps b y k f)) t)
-
 next_skip : (m : List ℕ) (ws : List Bool) (qs : List (List Monomial)) → get_or ws (length qs) false ≡ false → next_normal m ws qs ≡ []
 next_skip m ws qs e = rw e
 
 next_take : (m : List ℕ) (ws : List Bool) (qs : List (List Monomial)) → get_or ws (length qs) false ≡ true → next_normal m ws qs ≡ node_normal qs (node_at m (length qs))
 next_take m ws qs e = rw e
-
--- the next node, wanted or not
-module _ (room : ℕ) (m : List ℕ) (ws : List Bool) (ps : List Polynomial) (r : Result Polynomial PolynomialError) where
-  pub told_skip : get_or ws (length ps) false ≡ false → Told room [] r → Told room (next_normal m ws (map poly ps)) r
-  told_skip e t = subst (λ (z : List Monomial). Told room z r) (sym (next_skip m ws (map poly ps) (simp length-map e))) t
-
-  pub told_take : get_or ws (length ps) false ≡ true → (n : Node) → n ≡ node_at m (length ps) → Told room (node_normal (map poly ps) n) r →
-      Told room (next_normal m ws (map poly ps)) r
-  told_take e n d t =
-      subst (λ (z : List Monomial). Told room z r)
-      (ap (node_normal (map poly ps)) (d ∙ ap (node_at m) (sym (length-map ps poly))) ∙ sym (next_take m ws (map poly ps) (simp length-map e))) t
 
 -- qs are the normal forms of the first nodes, of those that are wanted or come to nothing
 pub record Expanded (m : List ℕ) (ws : List Bool) (qs : List (List Monomial)) : Type 0 where

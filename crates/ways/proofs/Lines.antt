@@ -1,6 +1,6 @@
 -- Text that is written piece by piece. Assumes nothing.
-use Rattle.std.proofs.Common.{◌≡◌, ℕ, ◌+◌, ◌<◌, ◌≤◌, List, [], ◌∷◌, ◌++◌, length, get_or, take, drop, vec_items, decimal, sym, ap, ◌∙◌, ap₂, append_assoc, arith}
-use Rattle.std.proofs.lemmas.List.{append-nil, map_push, take_more, take_all, nil_from_length}
+use Rattle.std.proofs.Common.{◌≡◌, ℕ, ◌+◌, ◌<◌, List, [], ◌∷◌, ◌++◌, length, get_or, take, drop, vec_items, decimal, sym, ap, ◌∙◌, ap₂, append_assoc, arith}
+use Rattle.std.proofs.lemmas.List.{append-nil, map_push, take_more, nil_from_length}
 use Rattle.std.proofs.lemmas.Bool.{eq-eqb, ne_eqb}
 use Rattle.provenance.specs.Polynomial.{Monomial}
 use Rattle.polynomial.specs.declared.Way.{Way}
@@ -21,9 +21,6 @@ pub led_more : (t u v b ns : List ℕ) (i : ℕ) → i < length ns → u ≡ t +
 led_more t u v b ns i h e f =
     f ∙ ap (λ (z : List ℕ). z ++ (b ++ decimal (get_or ns i 0))) e ∙ append_assoc t (led b (take i ns)) (b ++ decimal (get_or ns i 0))
     ∙ ap (λ (z : List ℕ). t ++ z) (sym (led_push b (take i ns) (get_or ns i 0)) ∙ ap (led b) (sym (take_more ns i 0 h)))
-
-pub led_all : (t u b ns : List ℕ) (i : ℕ) → length ns ≤ i → u ≡ t ++ led b (take i ns) → u ≡ t ++ led b ns
-led_all t u b ns i h e = e ∙ ap (λ (z : List ℕ). t ++ led b z) (take_all i ns h)
 
 pub parted_none : (t b ns : List ℕ) → length ns ≡ 0 → t ≡ t ++ parted b ns
 unfolding parted
@@ -76,9 +73,6 @@ ways_more t u a b v ws i w ks h x k e f g p =
   where
     pushed : monomials (take i ws) ++ monomial w ∷ [] ≡ monomials (take i ws ++ get_or ws i w ∷ [])
     pushed = ap (λ (z : Way). monomials (take i ws) ++ monomial z ∷ []) x ∙ sym (map_push monomial (take i ws) (get_or ws i w))
-
-pub ways_all : (t u : List ℕ) (ws : List Way) (i : ℕ) → length ws ≤ i → u ≡ t ++ ways_text (monomials (take i ws)) → u ≡ t ++ ways_text (monomials ws)
-ways_all t u ws i h e = e ∙ ap (λ (z : List Way). t ++ ways_text (monomials z)) (take_all i ws h)
 
 pub line_all : (t a b u row : List ℕ) (ms : List Monomial) → a ≡ t ++ parted blank row → b ≡ a ++ colon → u ≡ b ++ ways_text ms → u ≡ t ++ line_text row ms
 unfolding line_text

@@ -1,7 +1,7 @@
 -- Which nodes have to be expanded. Assumes nothing.
 use Rattle.std.proofs.Common.{◌≡◌, ℕ, ◌+◌, ◌-◌, ◌<◌, ◌≤◌, Bool, true, false, not, ◌≢◌, ◌⊎◌, List, [], length, get_or, set, replicate, sym, refl, ap, ◌∙◌, subst, inl, inr, arith, length-set}
 use lib.ListN.{length-replicate}
-use Rattle.std.proofs.lemmas.Bool.{false≢true, cases_eq}
+use Rattle.std.proofs.lemmas.Bool.{false≢true, not-true, not-false, cases_eq}
 use Rattle.std.proofs.lemmas.List.{get_or-set_same, get_or-set_other, get_or-replicate}
 use Rattle.circuit.specs.declared.Node.{Node}
 use Rattle.circuit.specs.declared.Node.TheVariants.{Never, Always, Mark, Or, Both}
@@ -83,17 +83,12 @@ set_cases P ws a j v h same other = go (cases_eq j a)
 abbrev want : List Bool → ℕ → List Bool → List Bool
 want es a ws = set ws a (not (get_or es a false))
 
-false_not : (b : Bool) → not b ≡ false → b ≡ true
-false_not true e = refl
-false_not false e = absurd (false≢true (sym e))
-
 true_not : (b : Bool) → not b ≡ true → b ≡ true → ⊥
-true_not true e f = false≢true e
-true_not false e f = false≢true f
+true_not b e f = false≢true (sym (not-true b e) ∙ f)
 
 module _ (m : List ℕ) (i : ℕ) (es : List Bool) (E : Empties m (i + 1) es) where
   unwanted : (a : ℕ) → a ≤ i → not (get_or es a false) ≡ false → normal_at m a ≡ []
-  unwanted a h e = (E.each a (omega arith)).0 (false_not (get_or es a false) e)
+  unwanted a h e = (E.each a (omega arith)).0 (not-false (get_or es a false) e)
 
   wanted_some : (a : ℕ) → a ≤ i → not (get_or es a false) ≡ true → normal_at m a ≡ [] → ⊥
   wanted_some a h e z = true_not (get_or es a false) e ((E.each a (omega arith)).1 z)

@@ -5,8 +5,8 @@ use Rattle.circuit.specs.Held.{count_in, Sound, Amiss}
 use Rattle.polynomial.specs.declared.Way.{Way}
 use Rattle.polynomial.specs.Rise.{FitsIn}
 use Rattle.polynomial.specs.Ways.{monomials}
-use Rattle.ways.specs.declared.WaysError.{WaysError}
-use Rattle.ways.specs.declared.WaysError.TheVariants.{Memory, Node, Room}
+use Rattle.ways.specs.declared.error.WaysError.{WaysError}
+use Rattle.ways.specs.declared.error.WaysError.TheVariants.{Memory, Node, Room}
 use Rattle.ways.specs.Passes.{normal_at}
 
 -- a refusal is told by a number and a place

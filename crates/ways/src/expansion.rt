@@ -1,94 +1,75 @@
 //! The normal form of a node.
-ghost use Rattle.std.specs.Prelude.{◌<◌, map, length};
-ghost use Rattle.circuit.specs.Held.{count_in, Sound, NamesEarlier};
+ghost use Rattle.std.specs.Prelude.{◌<◌, ◌≤◌, map, length};
+ghost use Rattle.circuit.specs.Held.{NamesEarlier};
 ghost use Rattle.polynomial.specs.Told.{poly, Told};
 ghost use Rattle.ways.specs.Asked.{Asked};
 ghost use Rattle.ways.specs.Passes.{normal_at, node_normal, next_normal, Wanted};
 
 use crate::WaysError;
-use crate::passes::{empties, wants};
-use circuit::{Node, check_store, known_node};
-use polynomial::{Polynomial, PolynomialError, Way, add, always, copy, mark, multiply, never};
+use crate::root::Root;
+use circuit::{Node, check_store};
+use polynomial::{Polynomial, PolynomialError, Room, Way};
 use std::alloc::Global;
 
 /// The polynomial of a node, by those of earlier nodes.
-fn expand_node(
-    heap: Global,
-    node: Node,
-    made: &[Polynomial],
-    room: usize,
-) -> Result<Polynomial, PolynomialError>
+fn expand_node(room: Room, node: Node, made: &[Polynomial]) -> Result<Polynomial, PolynomialError>
     requires { NamesEarlier (length made.now) node }
-    ensures { Told room (node_normal (map poly made.now) node) result }
+    ensures { Told room.numbers (node_normal (map poly made.now) node) result }
 {
     match node {
-        Node::Never => never(heap, room),
-        Node::Always => always(heap, room),
-        Node::Mark(number) => mark(heap, number, room),
+        Node::Never => room.never(),
+        Node::Always => room.always(),
+        Node::Mark(number) => room.mark(number),
         Node::Or(a, b) => {
-            let p = copy(heap, &made[a as usize])?;
-            let q = copy(heap, &made[b as usize])?;
-            add(heap, p, q, room)
+            let p = made[a as usize].clone()?;
+            let q = made[b as usize].clone()?;
+            room.add(p, q)
         }
-        Node::Both(a, b) => multiply(heap, &made[a as usize], &made[b as usize], room),
+        Node::Both(a, b) => room.multiply(&made[a as usize], &made[b as usize]),
     }
 }
 
-/// The polynomial of the node behind those that are made, if it is wanted, and else none.
-fn expand_next(
-    heap: Global,
-    nodes: &[u64],
-    wanted: &[bool],
-    made: &[Polynomial],
-    room: usize,
-) -> Result<Polynomial, PolynomialError>
-    requires sound { Sound nodes.now }
-    requires counted { length made.now < count_in nodes.now }
-    requires within { length made.now < length wanted.now }
-    ensures { Told room (next_normal nodes.now wanted.now (map poly made.now)) result }
-{
-    let place = made.len();
-    if !wanted[place] {
-        return never(heap, room);
+impl Root<'_> {
+    /// The polynomial of the node behind those that are made, if it is wanted, and else none.
+    fn expand_next(
+        self,
+        room: Room,
+        wanted: &[bool],
+        made: &[Polynomial],
+    ) -> Result<Polynomial, PolynomialError>
+        requires before { length made.now ≤ self.node }
+        requires within { length made.now < length wanted.now }
+        ensures { Told room.numbers (next_normal self.entry.store.nodes.now wanted.now (map poly made.now)) result }
+    {
+        let place = made.len();
+        if !wanted[place] {
+            return room.never();
+        }
+        expand_node(room, self.store.node(place as u64), made)
     }
-    expand_node(heap, known_node(nodes, place as u64), made, room)
-}
 
-/// The polynomial of a node, where `wanted` says which nodes have to be expanded for it.
-fn expand(
-    heap: Global,
-    nodes: &[u64],
-    wanted: &[bool],
-    node: u64,
-    room: usize,
-) -> Result<Polynomial, PolynomialError>
-    requires sound { Sound nodes.now }
-    requires counted { node < count_in nodes.now }
-    requires wants { Wanted nodes.now node wanted.now }
-    ensures { Told room (normal_at nodes.now node) result }
-{
-    let mut made = Vec::new(heap);
-    for _ in 0..node {
-        let next = expand_next(heap, nodes, wanted, made.as_slice(), room)?;
-        made.push(next)?;
+    /// The polynomial of this node, where `wanted` says which nodes have to be expanded for it.
+    fn expand(self, room: Room, wanted: &[bool]) -> Result<Polynomial, PolynomialError>
+        requires { Wanted self.store.nodes.now self.node wanted.now }
+        ensures { Told room.numbers (normal_at self.entry.store.nodes.now self.entry.node) result }
+    {
+        let mut made = Vec::new(room.heap);
+        for _ in 0..self.node {
+            let next = self.expand_next(room, wanted, &made)?;
+            made.push(next)?;
+        }
+        self.expand_next(room, wanted, &made)
     }
-    expand_next(heap, nodes, wanted, made.as_slice(), room)
-}
 
-/// The normal form of a node of a sound store.
-fn normal_form(
-    heap: Global,
-    nodes: &[u64],
-    node: u64,
-    room: usize,
-) -> Result<Polynomial, PolynomialError>
-    requires sound { Sound nodes.now }
-    requires counted { node < count_in nodes.now }
-    ensures { Told room (normal_at nodes.now node) result }
-{
-    let empty = empties(heap, nodes, node + 1)?;
-    let wanted = wants(heap, nodes, empty.as_slice(), node)?;
-    expand(heap, nodes, wanted.as_slice(), node, room)
+    // Three rows by place, and not one row of structs: each is filled by a pass of its own, and the next pass reads all of it.
+    /// The normal form of this node.
+    fn normal_form(self, room: Room) -> Result<Polynomial, PolynomialError>
+        ensures { Told room.numbers (normal_at self.entry.store.nodes.now self.entry.node) result }
+    {
+        let empty = self.empties(room.heap)?;
+        let wanted = self.wants(room.heap, &empty)?;
+        self.expand(room, &wanted)
+    }
 }
 
 /// The ways of a node of a store: its normal form, if it takes at most `room` numbers when it is written as the number of
@@ -97,17 +78,17 @@ fn normal_form(
 pub fn ways(heap: Global, nodes: &[u64], node: u64, room: usize) -> Result<Vec<Way>, WaysError>
     ensures { Asked nodes.now node room result }
 {
-    if let Err(place) = check_store(nodes) {
-        return Err(WaysError::Node(place));
-    }
-    if node >= nodes[0] {
+    let store = check_store(nodes)?;
+    if node >= store.count() {
         return Err(WaysError::Node(node));
     }
-    match normal_form(heap, nodes, node, room) {
+    let room = Room {
+        heap,
+        numbers: room,
+    };
+    match (Root { store, node }).normal_form(room) {
         Ok(normal) => Ok(normal.ways),
-        Err(error) => match error {
-            PolynomialError::Memory => Err(WaysError::Memory),
-            PolynomialError::TooLarge => Err(WaysError::Room(room)),
-        },
+        Err(PolynomialError::Memory) => Err(WaysError::Memory),
+        Err(PolynomialError::TooLarge) => Err(WaysError::Room(room.numbers)),
     }
 }

@@ -17,7 +17,7 @@ pub fn numbers(heap: Global, ways: &[Way]) -> Result<Vec<u64>, AllocError>
     for way in ways {
         out.push(way.count)?;
         out.push(way.marks.len() as u64)?;
-        out.extend_from_slice(way.marks.as_slice())?;
+        out.extend_from_slice(&way.marks)?;
     }
     Ok(out)
 }

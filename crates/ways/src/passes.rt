@@ -1,9 +1,10 @@
 //! Which nodes come to nothing, and which have to be expanded.
-ghost use Rattle.std.specs.Prelude.{◌≡◌, ◌+◌, ◌<◌, ◌≤◌, false, length, replicate, IfOk};
-ghost use Rattle.circuit.specs.Held.{count_in, Sound, NamesEarlier};
+ghost use Rattle.std.specs.Prelude.{◌≡◌, ◌+◌, length, IfOk};
+ghost use Rattle.circuit.specs.Held.{NamesEarlier};
 ghost use Rattle.ways.specs.Passes.{empty_node, Empties, wanted_with, Wanted};
 
-use circuit::{Node, known_node};
+use crate::root::Root;
+use circuit::Node;
 use std::alloc::{AllocError, Global};
 
 /// Whether a node comes to nothing, by whether the nodes before it do.
@@ -17,21 +18,6 @@ fn empty_node(node: Node, empty: &[bool]) -> bool
         Node::Or(a, b) => empty[a as usize] && empty[b as usize],
         Node::Both(a, b) => empty[a as usize] || empty[b as usize],
     }
-}
-
-/// Which of the first `count` nodes come to nothing.
-pub(crate) fn empties(heap: Global, nodes: &[u64], count: u64) -> Result<Vec<bool>, AllocError>
-    requires sound { Sound nodes.now }
-    requires counted { count ≤ count_in nodes.now }
-    ensures { IfOk result (λ v. Empties nodes.now count v.items) }
-{
-    let mut empty = Vec::new(heap);
-    for place in 0..count {
-        let node = known_node(nodes, place);
-        let none = empty_node(node, empty.as_slice());
-        empty.push(none)?;
-    }
-    Ok(empty)
 }
 
 /// Says of the nodes that a node names that they have to be expanded, unless they come to nothing.
@@ -49,36 +35,33 @@ fn want_named(wanted: &mut [bool], empty: &[bool], node: Node)
     }
 }
 
-/// Says of each node whether it has to be expanded for a node, where `empty` says of each up to it whether it comes to nothing.
-/// A node that comes to nothing is not expanded, and neither is one that is named only by such nodes.
-fn want_all(wanted: &mut [bool], nodes: &[u64], empty: &[bool], node: u64)
-    requires sound { Sound nodes.now }
-    requires counted { node < count_in nodes.now }
-    requires empties { Empties nodes.now (node + 1) empty.now }
-    requires blank { wanted.old ≡ replicate (node + 1) false }
-    ensures { Wanted nodes.now node wanted.new }
-{
-    wanted[node as usize] = !empty[node as usize];
-    for place in (0..empty.len()).rev() {
-        if wanted[place] {
-            want_named(wanted, empty, known_node(nodes, place as u64));
+impl Root<'_> {
+    /// Which of the nodes up to this one come to nothing.
+    pub(crate) fn empties(self, heap: Global) -> Result<Vec<bool>, AllocError>
+        ensures { IfOk result (λ v. Empties self.entry.store.nodes.now (self.entry.node + 1) v.items) }
+    {
+        let mut empty = Vec::new(heap);
+        for place in 0..self.node + 1 {
+            let none = empty_node(self.store.node(place), &empty);
+            empty.push(none)?;
         }
+        Ok(empty)
     }
-}
 
-/// Which nodes have to be expanded for a node, where `empty` says of each up to it whether it comes to nothing.
-pub(crate) fn wants(
-    heap: Global,
-    nodes: &[u64],
-    empty: &[bool],
-    node: u64,
-) -> Result<Vec<bool>, AllocError>
-    requires sound { Sound nodes.now }
-    requires counted { node < count_in nodes.now }
-    requires empties { Empties nodes.now (node + 1) empty.now }
-    ensures { IfOk result (λ v. Wanted nodes.now node v.items) }
-{
-    let mut wanted = vec![in heap; false; empty.len()]?;
-    want_all(wanted.as_mut_slice(), nodes, empty, node);
-    Ok(wanted)
+    /// Which nodes have to be expanded for this one, where `empty` says of each up to it whether it comes to nothing.
+    /// A node that comes to nothing is not expanded, and neither is one that is named only by such nodes.
+    pub(crate) fn wants(self, heap: Global, empty: &[bool]) -> Result<Vec<bool>, AllocError>
+        requires { Empties self.store.nodes.now (self.node + 1) empty.now }
+        ensures { IfOk result (λ v. Wanted self.entry.store.nodes.now self.entry.node v.items) }
+    {
+        let mut wanted = vec![in heap; false; empty.len()]?;
+        wanted[self.node as usize] = !empty[self.node as usize];
+        // By place, since a node changes the row that is gone over, at earlier places.
+        for place in (0..empty.len()).rev() {
+            if wanted[place] {
+                want_named(&mut wanted, empty, self.store.node(place as u64));
+            }
+        }
+        Ok(wanted)
+    }
 }

@@ -1,4 +1,5 @@
 //! A row and its ways as text.
+// Pushed to the line's String, and no Display of a way, which would be no plainer: how numbers are parted is shared with the rows.
 ghost use Rattle.std.specs.Prelude.{◌≡◌, ◌++◌, IfOk, string_bytes, OnOk};
 ghost use Rattle.polynomial.specs.Ways.{monomials};
 ghost use Rattle.ways.specs.Text.{led, parted, count_text, marks_text, ways_text, line_text};
@@ -22,12 +23,11 @@ fn write_parted(text: &mut String, between: &str, numbers: &[u64]) -> Result<(),
     ensures { OnOk result (string_bytes text.new ≡
         string_bytes text.old ++ parted between.now numbers.now) }
 {
-    if numbers.is_empty() {
+    let [first, rest @ ..] = numbers else {
         return Ok(());
-    }
-    let first = numbers[0];
+    };
     write!(text, "{first}")?;
-    write_led(text, between, &numbers[1..])
+    write_led(text, between, rest)
 }
 
 /// Writes the count of a way and an x, unless it occurs once.
@@ -58,7 +58,7 @@ fn write_ways(text: &mut String, ways: &[Way]) -> Result<(), AllocError>
     for way in ways {
         write!(text, " ")?;
         write_count(text, way.count)?;
-        write_marks(text, way.marks.as_slice())?;
+        write_marks(text, &way.marks)?;
     }
     Ok(())
 }

@@ -1,93 +1,63 @@
-use Rattle.std.proofs.cmp.Tests.{ltb_from_iff}
-use Rattle.std.proofs.Common.{◌≡◌, ℕ, ◌-◌, ◌<◌, false, ltb, List, length, get_or, Some, vec_items, vec_len, Option, sym, ap, ◌∙◌, subst, arith}
-use Rattle.std.proofs.lemmas.Bool.Decides.{nat_tests}
+use Rattle.std.proofs.Common.{◌≡◌, length, vec_items, false, arith}
+use Rattle.std.proofs.lemmas.Result.{err_from_is_err_and}
 use Rattle.tables.specs.Tables.{before, same_row}
 use Rattle.tables.proofs.RowOrder.{same_true}
-use Rattle.polynomial.specs.declared.Way.{Way}
-use Rattle.polynomial.proofs.Fronts.{else_after, front_left, front_right, front_less, front_greater, popped, take_both, take_large}
+use Rattle.polynomial.proofs.Checked.{taken, refused, too_large}
+use Rattle.polynomial.proofs.Fronts.{else_after, same_marks, popped, first_popped, first_split, front_left, front_right, front_is, take_less, take_greater, take_both, take_large}
 use Rattle.polynomial.proofs.sums.take_first.Goals as goal
 
--- what is popped is what stood last
-last_popped : (a : List Way) (n k : ℕ) (x : Way) (r : Option Way) → k ≡ n → x ≡ get_or a (k - 1) x → r ≡ Some (get_or a (n - 1) x) → r ≡ Some x
-last_popped a n k x r e f g = g ∙ ap Some (sym (subst (λ (m : ℕ). x ≡ get_or a (m - 1) x) e f))
+pub returns-in_default : goal.returns-in_default
+returns-in_default c =
+    let l : length c.args.a.now.items ≡ 0 = omega (arith, c.in_default.ensures.item.3) in
+    front_right _ _ _ _ _ _ l c.args.b.now.ok.0 c.requires.left c.requires.right c.pop_front.ensures.items c.pop_front.ensures.cases
 
-last_at : (a : List Way) (n k : ℕ) (x : Way) → k ≡ n → n ≡ length a → x ≡ get_or a (k - 1) x → x ≡ get_or a (length a - 1) x
-last_at a n k x e l f = subst (λ (m : ℕ). x ≡ get_or a (m - 1) x) (e ∙ l) f
-
-pub returns-then-is_empty : goal.returns-then-is_empty
-returns-then-is_empty c =
-    let l = c.args.b.now.ok.0 in
-    let h : length (vec_items c.args.b.now) ≡ 0 = grind (arith, nat_tests) in
-    front_left (vec_items c.args.a.now) (vec_items c.args.b.now) (vec_items c.pop.new.self) c.pop.result h c.requires.left c.requires.right
-    c.pop.ensures.items ((ltb_from_iff c.pop.ensures.variant) ∙ ap (ltb 0) c.args.a.now.ok.0)
-
-pub returns-then-is_empty-2 : goal.returns-then-is_empty-2
-returns-then-is_empty-2 c =
-    let l = c.args.a.now.ok.0 in
-    let h : length (vec_items c.args.a.now) ≡ 0 = grind (arith, nat_tests) in
-    front_right (vec_items c.args.a.now) (vec_items c.args.b.now) (vec_items c.pop-then-is_empty-2.new.self) c.pop-then-is_empty-2.result h c.requires.left c.requires.right
-    c.pop-then-is_empty-2.ensures.items ((ltb_from_iff c.pop-then-is_empty-2.ensures.variant) ∙ ap (ltb 0) c.args.b.now.ok.0)
+pub returns-in_default-front : goal.returns-in_default-front
+returns-in_default-front c =
+    let l : length c.args.b.now.items ≡ 0 = omega (arith, c.in_default-front.ensures.item.3) in
+    front_left _ _ _ _ _ _ l c.args.a.now.ok.0 c.requires.left c.requires.right c.pop_front-in_default-front.ensures.items c.pop_front-in_default-front.ensures.cases
 
 pub returns-in-Less : goal.returns-in-Less
 returns-in-Less c =
-    let l = c.args.a.now.ok.0 in
-    let k = c.args.b.now.ok.0 in
-    let h : 0 < vec_len c.args.a.now = grind (arith, nat_tests) in
-    let g : 0 < length (vec_items c.args.b.now) = grind (arith, nat_tests) in
-    front_less (vec_items c.args.a.now) (vec_items c.args.b.now) (vec_items c.pop-in-Less.new.self)
-    c.index.result.now c.index-2.result.now c.pop-in-Less.result c.requires.left c.requires.right c.pop-in-Less.ensures.items
-    (last_popped (vec_items c.args.a.now) (vec_len c.args.a.now) c.len.result c.index.result.now c.pop-in-Less.result c.len.ensures c.index.ensures
-    (c.pop-in-Less.ensures.value c.index.result.now h))
-    g (last_at (vec_items c.args.b.now) (vec_len c.args.b.now) c.len-2.result c.index-2.result.now c.len-2.ensures k c.index-2.ensures)
-    (let e = c.in-Less.ensures.before in cc)
+    let x = c.in-Some.ensures.item.3 in
+    let y = c.in-Some-front.ensures.item.3 in
+    let r = first_popped _ _ _ _ c.args.a.now.ok.0 x.0 x.1 c.pop_front-in-Less.ensures.value in
+    front_is _ _ _ _ _ _ r
+    (take_less _ _ _ _ _ _ (popped _ _ _ _ c.pop_front-in-Less.ensures.items r) (first_split _ _ y.0 y.1)
+    c.requires.left c.requires.right (let e = c.in-Less.ensures.before in cc))
 
 pub returns-in-Greater : goal.returns-in-Greater
 returns-in-Greater c =
-    let l = c.args.a.now.ok.0 in
-    let k = c.args.b.now.ok.0 in
-    let h : 0 < vec_len c.args.b.now = grind (arith, nat_tests) in
-    let g : 0 < length (vec_items c.args.a.now) = grind (arith, nat_tests) in
-    front_greater (vec_items c.args.a.now) (vec_items c.args.b.now) (vec_items c.pop-in-Greater.new.self)
-    c.index.result.now c.index-2.result.now c.pop-in-Greater.result c.requires.left c.requires.right c.pop-in-Greater.ensures.items
-    (last_popped (vec_items c.args.b.now) (vec_len c.args.b.now) c.len-2.result c.index-2.result.now c.pop-in-Greater.result c.len-2.ensures c.index-2.ensures
-    (c.pop-in-Greater.ensures.value c.index-2.result.now h))
-    g (last_at (vec_items c.args.a.now) (vec_len c.args.a.now) c.len.result c.index.result.now c.len.ensures l c.index.ensures)
-    (let e = c.in-Greater.ensures in let f : before (vec_items c.index.result.now.marks) (vec_items c.index-2.result.now.marks) ≡ false = cc e.before in let g : same_row (vec_items c.index.result.now.marks) (vec_items c.index-2.result.now.marks) ≡ false = cc e.same in else_after _ _ g f)
-
--- the marks of what is popped are those that were compared
-same_marks : (x y u w : Way) (r s : Option Way) → r ≡ Some x → s ≡ Some y → r ≡ Some u → s ≡ Some w → vec_items u.marks ≡ vec_items w.marks → vec_items x.marks ≡ vec_items y.marks
-same_marks x y u w r s a b d e m = let p : x ≡ u = cc in let q : y ≡ w = cc in rw (p, q) m
-
-pub returns-in-Some : goal.returns-in-Some
-returns-in-Some c =
-    let h : 0 < vec_len c.args.a.now = grind (arith, nat_tests) in
-    let k : 0 < vec_len c.args.b.now = grind (arith, nat_tests) in
-    let n = c.in-Some.ensures.1 in
-    let m : vec_items c.index.result.now.marks ≡ vec_items c.index-2.result.now.marks =
-    same_true _ _ (let e = c.in-Equal.ensures.same in cc) in
-    let u = last_popped (vec_items c.args.a.now) (vec_len c.args.a.now) c.len.result c.index.result.now c.pop-in-Equal.result c.len.ensures c.index.ensures (c.pop-in-Equal.ensures.value c.index.result.now h) in
-    let w = last_popped (vec_items c.args.b.now) (vec_len c.args.b.now) c.len-2.result c.index-2.result.now c.pop-in-Equal-2.result c.len-2.ensures c.index-2.ensures (c.pop-in-Equal-2.ensures.value c.index-2.result.now k) in
-    take_both (vec_items c.args.a.now) (vec_items c.args.b.now) (vec_items c.pop-in-Equal.new.self) (vec_items c.pop-in-Equal-2.new.self)
-    c.unwrap-x.result c.unwrap-y.result
-    (popped (vec_items c.args.a.now) (vec_items c.pop-in-Equal.new.self) c.pop-in-Equal.result c.unwrap-x.result c.pop-in-Equal.ensures.items c.unwrap-x.ensures)
-    (popped (vec_items c.args.b.now) (vec_items c.pop-in-Equal-2.new.self) c.pop-in-Equal-2.result c.unwrap-y.result c.pop-in-Equal-2.ensures.items c.unwrap-y.ensures)
+    let x = c.in-Some.ensures.item.3 in
+    let y = c.in-Some-front.ensures.item.3 in
+    let r = first_popped _ _ _ _ c.args.b.now.ok.0 y.0 y.1 c.pop_front-in-Greater.ensures.value in
+    front_is _ _ _ _ _ _ r
+    (take_greater _ _ _ _ _ _ (first_split _ _ x.0 x.1) (popped _ _ _ _ c.pop_front-in-Greater.ensures.items r)
     c.requires.left c.requires.right
-    (record { count = c.in-Some.count; marks = c.unwrap-y.result.marks })
-    (same_marks c.unwrap-x.result c.unwrap-y.result c.index.result.now c.index-2.result.now c.pop-in-Equal.result c.pop-in-Equal-2.result c.unwrap-x.ensures c.unwrap-y.ensures u w m)
-    (λ i. record { count = n i; marks = vec_items c.unwrap-y.result.marks })
+    (let e = c.in-Greater.ensures in let f : before (vec_items c.in-Some.x.now.marks) (vec_items c.in-Some-front.y.now.marks) ≡ false = cc in let g : same_row (vec_items c.in-Some.x.now.marks) (vec_items c.in-Some-front.y.now.marks) ≡ false = cc in else_after _ _ g f))
 
-pub returns : goal.returns
-returns c =
-    let h : 0 < vec_len c.args.a.now = grind (arith, nat_tests) in
-    let k : 0 < vec_len c.args.b.now = grind (arith, nat_tests) in
-    let m : vec_items c.index.result.now.marks ≡ vec_items c.index-2.result.now.marks =
-    same_true _ _ (let e = c.in-Equal.ensures.same in cc) in
-    let u = last_popped (vec_items c.args.a.now) (vec_len c.args.a.now) c.len.result c.index.result.now c.pop-in-Equal.result c.len.ensures c.index.ensures (c.pop-in-Equal.ensures.value c.index.result.now h) in
-    let w = last_popped (vec_items c.args.b.now) (vec_len c.args.b.now) c.len-2.result c.index-2.result.now c.pop-in-Equal-2.result c.len-2.ensures c.index-2.ensures (c.pop-in-Equal-2.ensures.value c.index-2.result.now k) in
-    take_large (vec_items c.args.a.now) (vec_items c.args.b.now) (vec_items c.pop-in-Equal.new.self) (vec_items c.pop-in-Equal-2.new.self)
-    c.unwrap-x.result c.unwrap-y.result
-    (popped (vec_items c.args.a.now) (vec_items c.pop-in-Equal.new.self) c.pop-in-Equal.result c.unwrap-x.result c.pop-in-Equal.ensures.items c.unwrap-x.ensures)
-    (popped (vec_items c.args.b.now) (vec_items c.pop-in-Equal-2.new.self) c.pop-in-Equal-2.result c.unwrap-y.result c.pop-in-Equal-2.ensures.items c.unwrap-y.ensures)
+pub returns-in_err-count-in-Equal : goal.returns-in_err-count-in-Equal
+returns-in_err-count-in-Equal c =
+    let p = err_from_is_err_and c.from_residual.result c.from_residual.ensures.1 in
+    let x = c.in-Some.ensures.item.3 in
+    let y = c.in-Some-front.ensures.item.3 in
+    let r = first_popped _ _ _ _ c.args.a.now.ok.0 x.0 x.1 c.pop_front-in-Equal.ensures.value in
+    let s = first_popped _ _ _ _ c.args.b.now.ok.0 y.0 y.1 c.pop_front-in-Equal-2.ensures.value in
+    let m : vec_items c.in-Some.x.now.marks ≡ vec_items c.in-Some-front.y.now.marks = same_true _ _ (let e = c.in-Equal.ensures.same in cc) in
+    rw (p.1, p.2, too_large c.checked_add.result c.in_err-count-in-Equal.field-0.0 c.in_err-count-in-Equal.ensures.value)
+    (take_large _ _ _ _ _ _ (popped _ _ _ _ c.pop_front-in-Equal.ensures.items c.unwrap-x.ensures) (popped _ _ _ _ c.pop_front-in-Equal-2.ensures.items c.unwrap-y.ensures)
     c.requires.left c.requires.right
-    (same_marks c.unwrap-x.result c.unwrap-y.result c.index.result.now c.index-2.result.now c.pop-in-Equal.result c.pop-in-Equal-2.result c.unwrap-x.ensures c.unwrap-y.ensures u w m)
-    c.in-None.ensures
+    (same_marks _ _ _ _ _ _ c.unwrap-x.ensures c.unwrap-y.ensures r s m)
+    (refused _ _ _ c.in_err-count-in-Equal.ensures.ok_part c.checked_add.ensures))
+
+pub returns-in_ok-count-in-Equal : goal.returns-in_ok-count-in-Equal
+returns-in_ok-count-in-Equal c =
+    let x = c.in-Some.ensures.item.3 in
+    let y = c.in-Some-front.ensures.item.3 in
+    let r = first_popped _ _ _ _ c.args.a.now.ok.0 x.0 x.1 c.pop_front-in-Equal.ensures.value in
+    let s = first_popped _ _ _ _ c.args.b.now.ok.0 y.0 y.1 c.pop_front-in-Equal-2.ensures.value in
+    let n = taken c.checked_add.result c.in_ok-count-in-Equal.count _ _ c.in_ok-count-in-Equal.ensures.ok_part c.checked_add.ensures in
+    let m : vec_items c.in-Some.x.now.marks ≡ vec_items c.in-Some-front.y.now.marks = same_true _ _ (let e = c.in-Equal.ensures.same in cc) in
+    take_both _ _ _ _ _ _ (popped _ _ _ _ c.pop_front-in-Equal.ensures.items c.unwrap-x.ensures) (popped _ _ _ _ c.pop_front-in-Equal-2.ensures.items c.unwrap-y.ensures)
+    c.requires.left c.requires.right (record { count = c.in_ok-count-in-Equal.count; marks = c.unwrap-y.result.marks })
+    (same_marks _ _ _ _ _ _ c.unwrap-x.ensures c.unwrap-y.ensures r s m)
+    (λ i. record { count = n.1 i; marks = vec_items c.unwrap-y.result.marks })

@@ -8,11 +8,9 @@ loop-way-init c = written_none c.args.ways.now (vec_items c.in_ok-out.out) c.in_
 pub loop-way-preserved : goal.loop-way-preserved
 loop-way-preserved c =
     let l : c.len.result ≡ length (vec_items c.way-item.result.marks) = search rules in
-    written_more c.args.ways.now c.loop-way.way-index _ _ _ _ c.as_slice.result.now c.len.result c.way-item.result c.loop-way-test.true
-    c.way-item.is c.as_slice.ensures.value l c.loop-way.invariant c.in_ok-push.ensures.items c.in_ok-push-2.ensures.items
+    written_more c.args.ways.now c.loop-way.way-index _ _ _ _ c.deref.result.now c.len.result c.way-item.result c.loop-way-test.true
+    c.way-item.is c.deref.ensures.value l c.loop-way.invariant c.in_ok-push.ensures.items c.in_ok-push-2.ensures.items
     c.in_ok-extend_from_slice.ensures.items
 
-pub returns : goal.returns
-returns c =
-    let e = written_all c.args.ways.now c.loop-way.way-index _ c.loop-way-test.false c.loop-way.invariant in
-    record { written = e; long = numbers_long _ _ e }
+pub returns-clause-long : goal.returns-clause-long
+returns-clause-long c = numbers_long _ _ (written_all c.args.ways.now c.loop-way.way-index _ c.loop-way-test.false c.loop-way.invariant)

@@ -1,4 +1,4 @@
-use Rattle.ways.proofs.Lines.{led_none, led_more, led_all}
+use Rattle.ways.proofs.Lines.{led_none, led_more}
 use Rattle.ways.proofs.text.write_led.Goals as goal
 
 pub loop-number-init : goal.loop-number-init
@@ -8,6 +8,3 @@ pub loop-number-preserved : goal.loop-number-preserved
 loop-number-preserved c =
     led_more _ _ _ c.args.before.now c.args.numbers.now c.loop-number.number-index c.loop-number-test.true c.loop-number.invariant
     c.in_ok-write.ensures.bytes
-
-pub returns : goal.returns
-returns c = led_all _ _ _ _ c.loop-number.number-index c.loop-number-test.false c.loop-number.invariant

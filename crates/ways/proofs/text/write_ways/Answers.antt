@@ -1,4 +1,4 @@
-use Rattle.ways.proofs.Lines.{ways_none, ways_more, ways_all}
+use Rattle.ways.proofs.Lines.{ways_none, ways_more}
 use Rattle.ways.proofs.text.write_ways.Goals as goal
 
 pub loop-way-init : goal.loop-way-init
@@ -6,9 +6,6 @@ loop-way-init c = ways_none _ c.args.ways.now
 
 pub loop-way-preserved : goal.loop-way-preserved
 loop-way-preserved c =
-    ways_more _ _ _ _ _ c.args.ways.now c.loop-way.way-index c.way-item.result c.as_slice.result.now c.loop-way-test.true c.way-item.is
-    c.as_slice.ensures.value c.loop-way.invariant c.in_ok-write.ensures.bytes c.in_ok-write_count.ensures
+    ways_more _ _ _ _ _ c.args.ways.now c.loop-way.way-index c.way-item.result c.deref.result.now c.loop-way-test.true c.way-item.is
+    c.deref.ensures.value c.loop-way.invariant c.in_ok-write.ensures.bytes c.in_ok-write_count.ensures
     c.in_ok-write_marks.ensures
-
-pub returns : goal.returns
-returns c = ways_all _ _ c.args.ways.now c.loop-way.way-index c.loop-way-test.false c.loop-way.invariant

@@ -1,13 +1,13 @@
 use Rattle.std.proofs.Common.{◌+◌, length, vec_items}
 use Rattle.provenance.specs.Polynomial.{sum}
 use Rattle.polynomial.specs.Ways.{monomials}
-use Rattle.polynomial.specs.Fronts.{queue}
+use Rattle.polynomial.specs.Told.{poly}
 use Rattle.polynomial.proofs.AddLoop.{Joining}
-use Rattle.polynomial.proofs.sums.add.Given as goal
+use Rattle.polynomial.proofs.room.Room.add.Given as goal
 
 abbrev pub invariant-loop-ways : goal.invariant-loop-ways
 invariant-loop-ways l =
-    Joining (sum (queue (vec_items l.initial.a)) (queue (vec_items l.initial.b))) l.room (monomials (vec_items l.ways)) l.size (vec_items l.a) (vec_items l.b)
+    Joining (sum (poly l.fn.p) (poly l.fn.q)) l.self.numbers (monomials (vec_items l.ways)) l.size l.a.items l.b.items
 
 abbrev pub decreases-loop-ways : goal.decreases-loop-ways
-decreases-loop-ways l = length (vec_items l.a) + length (vec_items l.b)
+decreases-loop-ways l = length l.a.items + length l.b.items
