@@ -5,6 +5,7 @@ use Rattle.codec.specs.Input.{Read, read, faulty, cells_in, table_whole}
 use Rattle.codec.specs.declared.input.Decoded.{Decoded}
 use Rattle.codec.specs.declared.input.InputError.{InputError}
 use Rattle.codec.specs.declared.input.InputError.TheVariants.{NoMemory, Table, Operator}
+use Rattle.codec.specs.declared.output.Refused.{Refused}
 
 -- how many cells the table at the front has, if it fits
 abbrev pub size_of : List ℕ → Option ℕ
@@ -23,3 +24,9 @@ QueryRead r (Ok x) = r ≡ read (vec_items x.numbers) x.rest.now
 QueryRead r (Err NoMemory) = Unit {0}
 QueryRead r (Err (Table t)) = ⊥
 QueryRead r (Err (Operator p)) = r ≡ faulty p
+
+-- a faulty table is refusal 1, an operator that is cut off refusal 2; want of memory is no refusal
+abbrev pub refusal_of : InputError → Option Refused
+refusal_of NoMemory = None
+refusal_of (Table t) = Some (record { number = 1; place = t })
+refusal_of (Operator p) = Some (record { number = 2; place = p })

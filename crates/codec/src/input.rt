@@ -1,7 +1,9 @@
 //! What is read off the front of bytes, and why it is not.
 ghost use Rattle.std.specs.Prelude.{◌≡◌};
+ghost use Rattle.codec.specs.Reads.{refusal_of};
 ghost use Rattle.codec.specs.declared.input.InputError.TheVariants.{NoMemory};
 
+use crate::Refused;
 use std::alloc::{AllocError, AllocFailed};
 
 /// What bytes begin with, as numbers, and the bytes after it.
@@ -20,6 +22,25 @@ pub enum InputError {
     Table(usize),
     /// The operator at which a query is cut off.
     Operator(usize),
+}
+
+impl InputError {
+    /// The number and the place of the refusal; want of memory has none.
+    pub fn refusal(self) -> Option<Refused>
+        ensures { result ≡ refusal_of self }
+    {
+        match self {
+            InputError::NoMemory => None,
+            InputError::Table(table) => Some(Refused {
+                number: 1,
+                place: table as u64,
+            }),
+            InputError::Operator(operator) => Some(Refused {
+                number: 2,
+                place: operator as u64,
+            }),
+        }
+    }
 }
 
 impl From<AllocError> for InputError {

@@ -14,11 +14,7 @@ const OPERATOR: usize = 6;
 fn widened(heap: Global, bytes: &[u8]) -> Result<Vec<u64>, AllocError>
     ensures { IfOk result (λ v. v.items ≡ bytes.now) }
 {
-    let mut numbers = Vec::new(heap);
-    for byte in bytes {
-        numbers.push(u64::from(*byte))?;
-    }
-    Ok(numbers)
+    bytes.iter().map(|byte| u64::from(*byte)).collect(heap)
 }
 
 /// The query that `bytes` begin with, as its operators' numbers, or the operator at which it is cut off.
