@@ -5,6 +5,7 @@ ghost use Rattle.codec.specs.declared.input.InputError.TheVariants.{NoMemory};
 
 use crate::Refused;
 use std::alloc::{AllocError, AllocFailed};
+use thiserror::Error;
 
 /// What bytes begin with, as numbers, and the bytes after it.
 #[derive(Drop)]
@@ -14,13 +15,16 @@ pub struct Decoded<'a> {
 }
 
 /// Why bytes are not read.
-#[derive(Clone, Copy, PartialEq, Eq, Debug)]
+#[derive(Clone, Copy, PartialEq, Eq, Debug, Error)]
 pub enum InputError {
     /// There is no memory for the numbers.
+    #[error("no memory")]
     NoMemory,
     /// The first table that does not fit.
+    #[error("table {0} does not fit")]
     Table(usize),
     /// The operator at which a query is cut off.
+    #[error("the query is cut off at operator {0}")]
     Operator(usize),
 }
 

@@ -25,15 +25,12 @@ pub fn query_in(heap: Global, bytes: &[u8]) -> Result<Decoded<'_>, InputError>
         return Err(InputError::Operator(0));
     };
     let size = OPERATOR * *count as usize;
-    if size <= rest.len() {
-        let numbers = widened(heap, &rest[0..size])?;
-        return Ok(Decoded {
-            numbers,
-            rest: &rest[size..],
-        });
+    match rest.split_at_checked(size) {
+        Some((operators, rest)) => Ok(Decoded {
+            numbers: widened(heap, operators)?,
+            rest,
+        }),
+        None if *count > MAX_OPERATORS => Err(InputError::Operator(MAX_OPERATORS as usize)),
+        None => Err(InputError::Operator(rest.len() / OPERATOR)),
     }
-    if *count > MAX_OPERATORS {
-        return Err(InputError::Operator(MAX_OPERATORS as usize));
-    }
-    Err(InputError::Operator(rest.len() / OPERATOR))
 }
