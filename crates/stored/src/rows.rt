@@ -11,10 +11,6 @@ impl Answer {
         let size = self.width.checked_add(1)?;
         let start = size.checked_mul(i)?.checked_add(1)?;
         let end = start.checked_add(size)?;
-        let rows = self.rows.as_slice();
-        if end > rows.len() {
-            return None;
-        }
-        Some(&rows[start..end])
+        self.rows.as_slice().get(start..end)
     }
 }
