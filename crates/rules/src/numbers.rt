@@ -14,10 +14,7 @@ pub(crate) const MAX_MARK: u64 = 7423;
 pub(crate) fn number(word: &str) -> Result<u64, ArgumentError>
     ensures { NumberRead word.now result }
 {
-    match word.parse::<u64>() {
-        Ok(number) => Ok(number),
-        Err(_) => Err(ArgumentError::NoNumber),
-    }
+    word.parse::<u64>().map_err(|_| ArgumentError::NoNumber)
 }
 
 /// The mark that a word is.
@@ -35,9 +32,8 @@ pub(crate) fn mark(word: &str) -> Result<u64, ArgumentError>
 pub fn prices(heap: Global, numbers: &[u64]) -> Result<Vec<Price>, AllocError>
     ensures { IfOk result (λ v. v.items ≡ map Whole numbers.now) }
 {
-    let mut prices = Vec::new(heap);
-    for number in numbers {
-        prices.push(Price::Whole(*number))?;
-    }
-    Ok(prices)
+    numbers
+        .iter()
+        .map(|number| Price::Whole(*number))
+        .collect(heap)
 }
