@@ -33,15 +33,15 @@ impl Semiring for Levels {
     }
 
     fn take(&self, value: u64) -> u64 {
-        if value < self.top { value } else { self.top }
+        value.min(self.top)
     }
 
     fn plus(&self, a: u64, b: u64) -> Option<u64> {
-        Some(if a < b { b } else { a })
+        Some(a.max(b))
     }
 
     fn times(&self, a: u64, b: u64) -> Option<u64> {
-        Some(if a < b { a } else { b })
+        Some(a.min(b))
     }
 }
 

@@ -1,6 +1,7 @@
 //! Each refusal at its edge, and in its order.
+use codec::Refused;
 use query::Price;
-use semiring::{ReadError, Refusal, read_counts, read_levels, read_prices, read_sets};
+use semiring::{ReadError, read_counts, read_levels, read_prices, read_sets};
 use std::test::Fail;
 
 const MAX: u64 = u64::MAX;
@@ -135,21 +136,21 @@ fn numbers_and_places(rt: HostRuntime) {
     assert_eq!(rt; ReadError::NoMemory.refusal(), None);
     assert_eq!(rt;
         ReadError::BadNode(3).refusal(),
-        Some(Refusal {
+        Some(Refused {
             number: 7,
             place: 3,
         })
     );
     assert_eq!(rt;
         ReadError::NoValue(4).refusal(),
-        Some(Refusal {
+        Some(Refused {
             number: 8,
             place: 4,
         })
     );
     assert_eq!(rt;
         ReadError::Overflow(5).refusal(),
-        Some(Refusal {
+        Some(Refused {
             number: 9,
             place: 5,
         })
