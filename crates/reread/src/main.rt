@@ -24,8 +24,8 @@ fn words(rt: &HostRuntime) -> anyhow::Result<Vec<String>> {
 
 /// The nodes of the rows of an answer.
 fn asked(heap: Global, answer: &Answer) -> Result<Vec<u64>, AllocError> {
-    (0..answer.rows.len())
-        .map_while(|i| answer.row(i))
+    answer
+        .rows()
         .filter_map(|row| row.first().copied())
         .collect(heap)
 }
@@ -59,8 +59,7 @@ fn print_answer(rt: &HostRuntime, command: &Command, answer: &Answer) -> anyhow:
             return Ok(());
         }
     };
-    let rows = (0..answer.rows.len()).map_while(|i| answer.row(i));
-    for (row, worth) in rows.zip(worths.as_slice()) {
+    for (row, worth) in answer.rows().zip(worths.as_slice()) {
         let cells = row.get(1..).unwrap_or(&[]);
         rt.println(line(heap, cells, *worth)?)?;
     }
