@@ -1,7 +1,6 @@
 //! Reads stored answers from standard input, without the tables, and prints what a rule reads for each row.
 #![tactic(auto)]
 
-use query::Price;
 use rules::{Command, Rule, line, prices, read_command};
 use semiring::{ReadError, read_counts, read_levels, read_prices, read_sets};
 use std::alloc::{AllocError, Global};
@@ -31,7 +30,7 @@ fn asked(heap: Global, answer: &Answer) -> Result<Vec<u64>, AllocError> {
 }
 
 /// What a rule reads for each row of an answer.
-fn worths(heap: Global, command: &Command, answer: &Answer) -> Result<Vec<Price>, ReadError> {
+fn worths(heap: Global, command: &Command, answer: &Answer) -> Result<Vec<Option<u64>>, ReadError> {
     let asked = asked(heap, answer)?;
     let asked = asked.as_slice();
     let nodes = answer.nodes.as_slice();

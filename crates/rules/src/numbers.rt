@@ -1,10 +1,8 @@
 //! Numbers of the words, and prices.
-ghost use Rattle.std.specs.Prelude.{◌≡◌, ◌<◌, map, IfOk};
-ghost use Rattle.query.specs.declared.Price.TheVariants.{Whole};
+ghost use Rattle.std.specs.Prelude.{◌≡◌, ◌<◌, map, IfOk, Some};
 ghost use Rattle.rules.specs.Words.{NumberRead, MarkRead};
 
 use crate::ArgumentError;
-use query::Price;
 use std::alloc::{AllocError, Global};
 
 /// The highest mark: row 255 of table 7.
@@ -29,11 +27,8 @@ pub(crate) fn mark(word: &str) -> Result<u64, ArgumentError>
 }
 
 /// Each number as a price.
-pub fn prices(heap: Global, numbers: &[u64]) -> Result<Vec<Price>, AllocError>
-    ensures { IfOk result (λ v. v.items ≡ map Whole numbers.now) }
+pub fn prices(heap: Global, numbers: &[u64]) -> Result<Vec<Option<u64>>, AllocError>
+    ensures { IfOk result (λ v. v.items ≡ map Some numbers.now) }
 {
-    numbers
-        .iter()
-        .map(|number| Price::Whole(*number))
-        .collect(heap)
+    numbers.iter().map(|number| Some(*number)).collect(heap)
 }

@@ -1,8 +1,9 @@
 //! Why nothing is read.
 ghost use Rattle.std.specs.Prelude.{◌≡◌};
-ghost use Rattle.semiring.specs.declared.errors.ReadError.TheVariants.{NoMemory as OutOfMemory};
+ghost use Rattle.semiring.specs.declared.errors.ReadError.TheVariants.{NoMemory as OutOfMemory, BadNode as Faulty};
 ghost use Rattle.semiring.specs.Refusals.{refusal_of};
 
+use circuit::BadNode;
 use codec::Refused;
 use std::alloc::AllocError;
 use thiserror::Error;
@@ -43,5 +44,13 @@ impl From<AllocError> for ReadError {
 
     fn from(_error: AllocError) -> ReadError {
         ReadError::NoMemory
+    }
+}
+
+impl From<BadNode> for ReadError {
+    ghost from_gives = { λ e r. r ≡ Faulty e.place };
+
+    fn from(error: BadNode) -> ReadError {
+        ReadError::BadNode(error.place)
     }
 }
