@@ -44,8 +44,11 @@ module _ {V : Type 0} (a : Algebra V) (vs : List V) (m : List ℕ) (bs : List Bo
     evaluated_skip off x after q = subst (Evaluated a vs m bs (p + 1)) (sym q) (pushed x (λ on. absurd (grind arith)))
 
     -- a node n that is chosen; zs are the values at hand
-    module _ (c : Chosen m bs) (h : p < count_in m) (here : get_or bs p false ≡ true) (zs : List V) (n : Node) (e : zs ≡ ds)
+    module _ (c : Chosen m bs) (within : p < length bs) (here : get_or bs p false ≡ true) (zs : List V) (n : Node) (e : zs ≡ ds)
         (f : n ≡ get_or (nodes_in m) p Never) where
+      h : p < count_in m
+      h = let long = c.long in omega arith
+
       names : NamesEarlier p (get_or (nodes_in m) p Never)
       names = sound_names m c.sound p h
 

@@ -21,7 +21,7 @@ ToldBad m asked (Overflow p) = ⊥
 
 -- the store is the memory, and it and the nodes asked for are good; or a node at fault is told
 abbrev pub ChecksNodes : List ℕ → List ℕ → Result Store ReadError → Type 0
-ChecksNodes m asked r = MatchResult r (λ s. (s.nodes.now ≡ m) × Good m asked) (ToldBad m asked)
+ChecksNodes m asked r = MatchResult r (λ s. (s.nodes.now ≡ m) × Good s.nodes.now asked) (ToldBad m asked)
 
 -- bs says of each node of a sound store whether it is to be read, and with a node those that it names
 pub record Chosen (m : List ℕ) (bs : List Bool) : Type 0 where
