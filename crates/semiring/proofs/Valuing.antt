@@ -5,7 +5,6 @@ use Rattle.std.proofs.lemmas.List.{get_or_past}
 use Rattle.circuit.specs.declared.Node.{Node}
 use Rattle.circuit.specs.declared.Node.TheVariants.{Never, Mark}
 use Rattle.circuit.specs.Store.{nodes_in}
-use Rattle.circuit.specs.Held.{count_in}
 use Rattle.semiring.specs.Parts.{ChosenMark, MarksValued}
 
 -- a flag that is set is within the flags

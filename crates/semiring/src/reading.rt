@@ -78,9 +78,9 @@ fn evaluate_chosen<S: Semiring>(
             continue;
         }
         let node = store.node(place as u64);
-        let Some(value) = evaluate(semiring, node, done.as_slice(), values) else {
-            return Err(ReadError::Overflow(place as u64));
-        };
+        let value = evaluate(semiring, node, done.as_slice(), values).ok_or(ReadError::Overflow(
+            place as u64,
+        ))?;
         done.push_reserved(value);
     }
     Ok(done)
