@@ -102,7 +102,7 @@ fn run(rt: &HostRuntime, answers: &mut Vec<Answer>) -> anyhow::Result<()> {
         Err(error) => return print_refusal(rt, error),
     };
     let mut rest = tables.rest;
-    for _ in 0..input.len() {
+    loop {
         let query = match query_in(heap, rest) {
             Ok(query) => query,
             Err(error) => return print_refusal(rt, error),
@@ -115,11 +115,10 @@ fn run(rt: &HostRuntime, answers: &mut Vec<Answer>) -> anyhow::Result<()> {
         )?;
         rest = query.rest;
         if rest.is_empty() {
-            break;
+            return Ok(());
         }
         rt.println("")?;
     }
-    Ok(())
 }
 
 /// Answers all queries, and stores the answers in the file that the arguments name, if they name one.

@@ -1,5 +1,5 @@
 //! A query as bytes: the number of its operators, and six bytes an operator, a byte a number.
-ghost use Rattle.std.specs.Prelude.{◌≡◌, ◌++◌, IfOk};
+ghost use Rattle.std.specs.Prelude.{◌≡◌, ◌<◌, ◌++◌, length, IfOk};
 ghost use Rattle.codec.specs.Input.{read_query};
 ghost use Rattle.codec.specs.Reads.{QueryRead};
 
@@ -19,7 +19,8 @@ fn widened(heap: Global, bytes: &[u8]) -> Result<Vec<u64>, AllocError>
 
 /// The query that `bytes` begin with, as its operators' numbers, or the operator at which it is cut off.
 pub fn query_in(heap: Global, bytes: &[u8]) -> Result<Decoded<'_>, InputError>
-    ensures { QueryRead (read_query bytes.now) result }
+    ensures read { QueryRead (read_query bytes.now) result }
+    ensures shorter { IfOk result (λ query. length query.rest.now < length bytes.now) }
 {
     let [count, rest @ ..] = bytes else {
         return Err(InputError::Operator(0));
