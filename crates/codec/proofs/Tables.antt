@@ -3,7 +3,6 @@ use Rattle.std.proofs.Common.{◌≡◌, ℕ, suc, ◌+◌, ◌-◌, ◌*◌, �
 use borrow.Author.Tests.{lt-leb}
 use Rattle.std.specs.Option.{ok_or}
 use Rattle.std.proofs.lemmas.List.{drop-drop}
-use Rattle.std.proofs.lemmas.Bool.Decides.{nat_tests}
 use Rattle.tables.specs.Bool.{pick}
 use Rattle.codec.specs.Input.{Read, read, faulty, cells_in, table_bytes, table_whole, table_numbers, behind, tables_from, read_tables}
 use Rattle.codec.specs.declared.input.InputError.{InputError}
@@ -42,9 +41,6 @@ from_off t n bs h e = from_more t n bs h ∙ rw e
 behind_behind : (ns ms : List ℕ) (r : Read) → behind ns (behind ms r) ≡ behind (ns ++ ms) r
 behind_behind ns ms (read ks bs) = ap (λ ls. read ls bs) (sym (append_assoc ns ms ks))
 behind_behind ns ms (faulty t) = refl
-
-pub whole_long : (bs : List ℕ) → table_whole bs ≡ true → table_bytes bs ≤ length bs
-whole_long bs e = grind (arith, nat_tests)
 
 -- a table that fits is found
 pub table_there : (bs : List ℕ) (t : FrontTable) → 2 ≤ length bs → get_or bs 0 0 ≤ 32 → 1 ≤ get_or bs 1 0 → get_or bs 1 0 ≤ 4 →
