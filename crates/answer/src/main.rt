@@ -3,7 +3,7 @@
 #![tactic(auto)]
 
 use anyhow::anyhow;
-use codec::{InputError, query_in, refused, tables_in};
+use codec::{InputError, Refused, query_in, tables_in};
 use eval::{Reply, ask};
 use query::parse;
 use std::alloc::{AllocError, Global};
@@ -17,6 +17,9 @@ const WORK: usize = 1152;
 
 const NODES: usize = 775;
 
+/// How many numbers a node takes.
+const NODE: usize = 3;
+
 const OUT: usize = 1153;
 
 /// How many numbers the ways of one row may take.
@@ -29,41 +32,26 @@ fn row_line(heap: Global, nodes: &[u64], row: &[u64]) -> anyhow::Result<String> 
     };
     match ways(heap, nodes, *node, ROOM) {
         Ok(found) => Ok(line(heap, cells, found.as_slice())?),
-        Err(WaysError::Node(place)) => Ok(refused(heap, 7, place)?),
-        Err(WaysError::Room(room)) => Ok(refused(heap, 10, room.saturating_add(1) as u64)?),
+        Err(WaysError::Node(place)) => Ok(Refused { number: 7, place }.to_string(heap)?),
+        Err(WaysError::Room(room)) => {
+            let place = room.saturating_add(1) as u64;
+            Ok(Refused { number: 10, place }.to_string(heap)?)
+        }
         Err(WaysError::Memory) => Err(anyhow!("no memory")),
     }
 }
 
-/// The first `used` numbers of a memory.
-fn front(heap: Global, memory: &[u64], used: usize) -> Result<Vec<u64>, AllocError> {
-    Vec::from_slice(heap, &memory[0..used.min(memory.len())])
+/// A count and `each` numbers for every item counted, from the front of a memory.
+fn counted(heap: Global, memory: &[u64], each: usize) -> Result<Vec<u64>, AllocError> {
+    let count = memory.first().map_or(0, |count| *count as usize);
+    let size = each.saturating_mul(count).saturating_add(1);
+    memory.iter().take(size).copied().collect(heap)
 }
 
 /// The answer that memory holds, to be stored.
-fn kept(
-    heap: Global,
-    width: usize,
-    nodes: &[u64],
-    out: &[u64],
-    count: usize,
-) -> anyhow::Result<Answer> {
-    let Some(stored) = nodes.first() else {
-        return Err(anyhow!("no nodes"));
-    };
-    let nodes = front(
-        heap,
-        nodes,
-        (*stored as usize).saturating_mul(3).saturating_add(1),
-    )?;
-    let rows = front(
-        heap,
-        out,
-        width
-            .saturating_add(1)
-            .saturating_mul(count)
-            .saturating_add(1),
-    )?;
+fn kept(heap: Global, width: usize, nodes: &[u64], out: &[u64]) -> Result<Answer, AllocError> {
+    let nodes = counted(heap, nodes, NODE)?;
+    let rows = counted(heap, out, width.saturating_add(1))?;
     Ok(Answer { width, nodes, rows })
 }
 
@@ -80,26 +68,28 @@ fn answer(
     let mut out = [0; OUT];
     match ask(tables, signs, &mut work, &mut nodes, &mut out) {
         Reply::Refused(refusal) => {
-            rt.println(refused(heap, refusal.number(), refusal.place() as u64)?)?;
+            rt.println(Refused {
+                number: refusal.number(),
+                place: refusal.place() as u64,
+            })?;
         }
-        Reply::Done(count) => {
+        Reply::Done(_) => {
             let width = parse(tables, signs).unwrap_or(0);
-            for row in out[1..].chunks(width.saturating_add(1)).take(count) {
-                rt.println(row_line(heap, &nodes, row)?)?;
+            let answer = kept(heap, width, &nodes, &out)?;
+            for row in answer.rows() {
+                rt.println(row_line(heap, answer.nodes.as_slice(), row)?)?;
             }
-            answers.push(kept(heap, width, &nodes, &out, count)?)?;
+            answers.push(answer)?;
         }
     }
     Ok(())
 }
 
-/// The line that says why input is not read.
-fn refusal(heap: Global, error: InputError) -> anyhow::Result<String> {
-    match error {
-        InputError::NoMemory => Err(anyhow!("no memory")),
-        InputError::Table(place) => Ok(refused(heap, 1, place as u64)?),
-        InputError::Operator(place) => Ok(refused(heap, 2, place as u64)?),
-    }
+/// Prints why input is not read.
+fn print_refusal(rt: &HostRuntime, error: InputError) -> anyhow::Result<()> {
+    let refused = error.refusal().ok_or(error)?;
+    rt.println(refused)?;
+    Ok(())
 }
 
 /// Answers the queries of the input one after the other, with an empty line between two.
@@ -109,19 +99,13 @@ fn run(rt: &HostRuntime, answers: &mut Vec<Answer>) -> anyhow::Result<()> {
     rt.stdin().read_to_end(&mut input)?;
     let tables = match tables_in(heap, input.as_slice()) {
         Ok(tables) => tables,
-        Err(error) => {
-            rt.println(refusal(heap, error)?)?;
-            return Ok(());
-        }
+        Err(error) => return print_refusal(rt, error),
     };
     let mut rest = tables.rest;
-    for _ in 0..input.len() {
+    loop {
         let query = match query_in(heap, rest) {
             Ok(query) => query,
-            Err(error) => {
-                rt.println(refusal(heap, error)?)?;
-                return Ok(());
-            }
+            Err(error) => return print_refusal(rt, error),
         };
         answer(
             rt,
@@ -131,11 +115,10 @@ fn run(rt: &HostRuntime, answers: &mut Vec<Answer>) -> anyhow::Result<()> {
         )?;
         rest = query.rest;
         if rest.is_empty() {
-            break;
+            return Ok(());
         }
         rt.println("")?;
     }
-    Ok(())
 }
 
 /// Answers all queries, and stores the answers in the file that the arguments name, if they name one.

@@ -1,7 +1,7 @@
 -- Reading one query. Assumes nothing.
 use Rattle.std.proofs.Common.{◌≡◌, ℕ, ◌-◌, ◌*◌, ◌/◌, ◌<◌, ◌≤◌, leb, List, [], ◌∷◌, length, get_or, take, drop, refl, ◌∙◌, arith, le-leb}
-use native.Mathlib.Nat.{sub-zero}
 use borrow.Author.Tests.{lt-leb}
+use Rattle.std.specs.List.{IsSplitAt}
 use Rattle.std.proofs.lemmas.List.{take_rest}
 use Rattle.tables.specs.Bool.{pick}
 use Rattle.codec.specs.Input.{read, faulty, read_query}
@@ -23,12 +23,10 @@ read_step [] h = absurd (omega arith)
 read_step (k ∷ bs) h = refl
 
 module _ (bs : List ℕ) (some : 1 ≤ length bs) where
-  pub all_there : (numbers : List ℕ) → 6 * get_or bs 0 0 ≤ length (rest bs) → numbers ≡ take (6 * get_or bs 0 0 - 0) (rest bs) →
-      read_query bs ≡ read numbers (take (length (rest bs) - 6 * get_or bs 0 0) (drop (6 * get_or bs 0 0) (rest bs)))
-  all_there numbers h e =
-      let l : 6 * get_or bs 0 0 ≤ length (drop 1 bs) = rw (take_rest bs 1) at h in
-      rw (e, sub-zero (6 * get_or bs 0 0), take_rest bs 1, take_rest (drop 1 bs) (6 * get_or bs 0 0))
-      (read_step bs some ∙ rw (le-leb (6 * get_or bs 0 0) (length (drop 1 bs)) l))
+  pub all_there : (numbers front back : List ℕ) → IsSplitAt (rest bs) (6 * get_or bs 0 0) front back → numbers ≡ front → read_query bs ≡ read numbers back
+  all_there numbers front back p e =
+      let l : 6 * get_or bs 0 0 ≤ length (drop 1 bs) = rw (take_rest bs 1) at p.0 in
+      rw (e, p.1, p.2, take_rest bs 1) (read_step bs some ∙ rw (le-leb (6 * get_or bs 0 0) (length (drop 1 bs)) l))
 
   pub cut_many : length (rest bs) < 6 * get_or bs 0 0 → 16 < get_or bs 0 0 → read_query bs ≡ faulty 16
   cut_many h m =

@@ -1,12 +1,15 @@
 -- One step of reading tables. Assumes nothing.
-use Rattle.std.proofs.Common.{◌≡◌, ℕ, suc, ◌+◌, ◌-◌, ◌*◌, ◌<◌, ◌≤◌, Bool, true, false, List, [], ◌∷◌, ◌++◌, length, get_or, take, drop, Some, None, sym, refl, ap, ◌∙◌, append_assoc, append-nil, add-one, arith, le-leb}
+use Rattle.std.proofs.Common.{◌≡◌, ℕ, suc, ◌+◌, ◌-◌, ◌*◌, ◌/◌, ◌<◌, ◌≤◌, true, false, List, [], ◌∷◌, ◌++◌, length, get_or, take, drop, None, Err, sym, subst, refl, ap, ◌∙◌, append_assoc, append-nil, add-one, arith, le-leb}
 use borrow.Author.Tests.{lt-leb}
-use Rattle.std.proofs.lemmas.List.{take_rest}
-use Rattle.std.proofs.lemmas.Bool.Decides.{nat_tests}
+use Rattle.std.specs.Option.{ok_or}
+use Rattle.std.proofs.lemmas.List.{drop-drop}
 use Rattle.tables.specs.Bool.{pick}
-use Rattle.codec.specs.Bytes.{numbers}
 use Rattle.codec.specs.Input.{Read, read, faulty, cells_in, table_bytes, table_whole, table_numbers, behind, tables_from, read_tables}
-use Rattle.codec.specs.Reads.{size_of}
+use Rattle.codec.specs.declared.input.InputError.{InputError}
+use Rattle.codec.specs.declared.input.InputError.TheVariants.{Table}
+use Rattle.codec.specs.declared.tables_form.FrontTable.{FrontTable}
+use Rattle.codec.specs.Reads.{front_numbers, AtFront, TablesRead}
+use Rattle.codec.proofs.Bytes.{numbers_taken}
 
 pub none_read : (bs : List ℕ) → get_or bs 0 0 < 1 → read_tables bs ≡ faulty 0
 unfolding read_tables
@@ -39,31 +42,26 @@ behind_behind : (ns ms : List ℕ) (r : Read) → behind ns (behind ms r) ≡ be
 behind_behind ns ms (read ks bs) = ap (λ ls. read ls bs) (sym (append_assoc ns ms ks))
 behind_behind ns ms (faulty t) = refl
 
--- what the size says: the table fits, and has so many cells; or it does not fit
-size_test : (b : Bool) (n m : ℕ) → pick b (Some n) None ≡ Some m → (b ≡ true) × (n ≡ m)
-size_test true n m e = (refl, cc)
-size_test false n m e = absurd (let z : ◌≡◌ {A = ℕ} 0 1 = cc in omega arith)
-
-none_test : (b : Bool) (n : ℕ) → pick b (Some n) None ≡ None → b ≡ false
-none_test true n e = absurd (let z : ◌≡◌ {A = ℕ} 0 1 = cc in omega arith)
-none_test false n e = refl
-
-pub size_some : (bs : List ℕ) (n : ℕ) → Some n ≡ size_of bs → (table_whole bs ≡ true) × (cells_in bs ≡ n)
-size_some bs n e = size_test (table_whole bs) (cells_in bs) n (sym e)
-
-pub whole_long : (bs : List ℕ) → table_whole bs ≡ true → table_bytes bs ≤ length bs
-whole_long bs e = grind (arith, nat_tests)
+-- a table that fits is found
+pub table_there : (bs : List ℕ) (t : FrontTable) → 2 ≤ length bs → get_or bs 0 0 ≤ 32 → 1 ≤ get_or bs 1 0 → get_or bs 1 0 ≤ 4 →
+    t.rows ≡ get_or bs 0 0 → t.columns ≡ get_or bs 1 0 → table_bytes bs ≤ length bs → t.cells.now ≡ take (8 * cells_in bs) (drop 2 bs) →
+    length t.cells.now ≡ 8 * cells_in bs → t.rest.now ≡ drop (8 * cells_in bs) (drop 2 bs) → AtFront bs t
+table_there bs t l r c d e f there g n h =
+    let m : 8 * cells_in bs / 8 ≡ cells_in bs = omega arith in
+    record {
+      whole = rw (le-leb 2 (length bs) l, le-leb (get_or bs 0 0) 32 r, le-leb 1 (get_or bs 1 0) c, le-leb (get_or bs 1 0) 4 d, le-leb (table_bytes bs) (length bs) there);
+      held = rw (e, f, n, m, g, numbers_taken (cells_in bs) (drop 2 bs));
+      rest = h ∙ drop-drop (8 * cells_in bs) 2 bs;
+    }
 
 -- the code's step past a table that fits
-pub read_on : (whole : Read) (t n : ℕ) (ns more bs : List ℕ) (cells : ℕ) → t < n → whole ≡ behind ns (tables_from t (n - t) bs) → Some cells ≡ size_of bs →
-    more ≡ ns ++ table_numbers bs →
-    whole ≡ behind more (tables_from (t + 1) (n - (t + 1)) (take (length bs - (2 + 8 * cells)) (drop (2 + 8 * cells) bs)))
-read_on whole t n ns more bs cells h i e f =
-    let p = size_some bs cells e in
-    rw (take_rest, ← p.1, f) (i ∙ ap (behind ns) (from_on t n bs h p.0) ∙ behind_behind ns (table_numbers bs) _)
+pub read_on : (whole : Read) (t n : ℕ) (ns more bs : List ℕ) (table : FrontTable) → t < n → whole ≡ behind ns (tables_from t (n - t) bs) → AtFront bs table →
+    more ≡ ns ++ front_numbers table → whole ≡ behind more (tables_from (t + 1) (n - (t + 1)) table.rest.now)
+read_on whole t n ns more bs table h i a f =
+    rw (a.rest, f, a.held) (i ∙ ap (behind ns) (from_on t n bs h a.whole) ∙ behind_behind ns (table_numbers bs) _)
 
-pub read_off : (whole : Read) (t n : ℕ) (ns bs : List ℕ) → t < n → whole ≡ behind ns (tables_from t (n - t) bs) → None ≡ size_of bs → whole ≡ faulty t
-read_off whole t n ns bs h i e = i ∙ ap (behind ns) (from_off t n bs h (none_test (table_whole bs) (cells_in bs) (sym e)))
+pub read_off : (whole : Read) (t n : ℕ) (ns bs : List ℕ) → t < n → whole ≡ behind ns (tables_from t (n - t) bs) → table_whole bs ≡ false → whole ≡ faulty t
+read_off whole t n ns bs h i e = i ∙ ap (behind ns) (from_off t n bs h e)
 
 pub read_end : (whole : Read) (t n : ℕ) (ns bs : List ℕ) → n ≤ t → whole ≡ behind ns (tables_from t (n - t) bs) → whole ≡ read ns bs
 unfolding tables_from
@@ -75,10 +73,8 @@ read_end whole t n ns bs h i =
 pub first_pushed : (items old : List ℕ) (x k : ℕ) → items ≡ old ++ x ∷ [] → old ≡ [] → x ≡ k → items ≡ k ∷ []
 first_pushed items old x k p e f = p ∙ rw (e, f)
 
--- a table's numbers, pushed one after the other
-pub table_pushed : (bs old one two all : List ℕ) (rows columns count : ℕ) → rows ≡ get_or bs 0 0 → columns ≡ get_or bs 1 0 → count ≡ cells_in bs →
-    one ≡ old ++ rows ∷ [] → two ≡ one ++ columns ∷ [] → all ≡ two ++ numbers count (take (length bs - 2) (drop 2 bs)) → all ≡ old ++ table_numbers bs
-table_pushed bs old one two all rows columns count r k n e f g =
-    let cells : List ℕ = numbers (cells_in bs) (drop 2 bs) in
-    g ∙ rw (f, e, r, k, n, take_rest)
-    (ap (λ xs. xs ++ cells) (append_assoc old (get_or bs 0 0 ∷ []) (get_or bs 1 0 ∷ [])) ∙ append_assoc old (get_or bs 0 0 ∷ get_or bs 1 0 ∷ []) cells)
+-- the error that says so
+pub table_told : (r : Read) (e : InputError) (t : ℕ) → Err e ≡ ok_or {T = FrontTable} None (Table t) → r ≡ faulty t → TablesRead r (Err e)
+table_told r e t f h =
+    let g : e ≡ Table t = cc in
+    subst (λ (d : InputError). TablesRead r (Err d)) (sym g) h

@@ -8,7 +8,7 @@ mod tables_form;
 mod words;
 
 pub use input::{Decoded, InputError};
-pub use output::refused;
+pub use output::{Refused, push_parted};
 pub use query_form::query_in;
 pub use tables_form::tables_in;
 pub use words::push_words;

@@ -1,12 +1,46 @@
 //! What the programs print.
-ghost use Rattle.std.specs.Prelude.{◌≡◌, IfOk, string_bytes};
-ghost use Rattle.codec.specs.Output.{refused_line};
+ghost use Rattle.std.specs.Prelude.{Some, ◌≡◌, ◌++◌, string_bytes, OnOk};
+ghost use Rattle.codec.specs.Output.{refused_line, led, parted};
 
-use std::alloc::{AllocError, Global};
+use std::alloc::AllocError;
+use std::fmt;
 
-/// A refusal: its number and its place, as in `refused 2 at 0`.
-pub fn refused(heap: Global, number: u64, place: u64) -> Result<String, AllocError>
-    ensures { IfOk result (λ s. string_bytes s ≡ refused_line number place) }
+/// A refusal: its number and its place, printed as in `refused 2 at 0`.
+#[derive(Clone, Copy, PartialEq, Eq, Debug)]
+pub struct Refused {
+    pub number: u64,
+    pub place: u64,
+}
+
+impl fmt::Display for Refused {
+    ghost output = { λ r. Some (refused_line r.number r.place) };
+
+    fn fmt<W: fmt::Write>(&self, f: &mut fmt::Formatter<W>) -> fmt::Result {
+        let number = self.number;
+        let place = self.place;
+        write!(f, "refused {number} at {place}")
+    }
+}
+
+/// Appends each number with `before` before it.
+fn push_led(text: &mut String, before: &str, numbers: &[u64]) -> Result<(), AllocError>
+    ensures { OnOk result (string_bytes text.new ≡
+        string_bytes text.old ++ led before.now numbers.now) }
 {
-    format!(in heap; "refused {number} at {place}")
+    for number in numbers {
+        write!(text, "{before}{number}")?;
+    }
+    Ok(())
+}
+
+/// Appends numbers with `between` between them.
+pub fn push_parted(text: &mut String, between: &str, numbers: &[u64]) -> Result<(), AllocError>
+    ensures { OnOk result (string_bytes text.new ≡
+        string_bytes text.old ++ parted between.now numbers.now) }
+{
+    let [first, rest @ ..] = numbers else {
+        return Ok(());
+    };
+    write!(text, "{first}")?;
+    push_led(text, between, rest)
 }

@@ -1,5 +1,5 @@
 //! A query as bytes: the number of its operators, and six bytes an operator, a byte a number.
-ghost use Rattle.std.specs.Prelude.{◌≡◌, ◌++◌, IfOk};
+ghost use Rattle.std.specs.Prelude.{◌≡◌, ◌<◌, ◌++◌, length, IfOk};
 ghost use Rattle.codec.specs.Input.{read_query};
 ghost use Rattle.codec.specs.Reads.{QueryRead};
 
@@ -14,30 +14,24 @@ const OPERATOR: usize = 6;
 fn widened(heap: Global, bytes: &[u8]) -> Result<Vec<u64>, AllocError>
     ensures { IfOk result (λ v. v.items ≡ bytes.now) }
 {
-    let mut numbers = Vec::new(heap);
-    for byte in bytes {
-        numbers.push(u64::from(*byte))?;
-    }
-    Ok(numbers)
+    bytes.iter().map(|byte| u64::from(*byte)).collect(heap)
 }
 
 /// The query that `bytes` begin with, as its operators' numbers, or the operator at which it is cut off.
 pub fn query_in(heap: Global, bytes: &[u8]) -> Result<Decoded<'_>, InputError>
-    ensures { QueryRead (read_query bytes.now) result }
+    ensures read { QueryRead (read_query bytes.now) result }
+    ensures shorter { IfOk result (λ query. length query.rest.now < length bytes.now) }
 {
     let [count, rest @ ..] = bytes else {
         return Err(InputError::Operator(0));
     };
     let size = OPERATOR * *count as usize;
-    if size <= rest.len() {
-        let numbers = widened(heap, &rest[0..size])?;
-        return Ok(Decoded {
-            numbers,
-            rest: &rest[size..],
-        });
+    match rest.split_at_checked(size) {
+        Some((operators, rest)) => Ok(Decoded {
+            numbers: widened(heap, operators)?,
+            rest,
+        }),
+        None if *count > MAX_OPERATORS => Err(InputError::Operator(MAX_OPERATORS as usize)),
+        None => Err(InputError::Operator(rest.len() / OPERATOR)),
     }
-    if *count > MAX_OPERATORS {
-        return Err(InputError::Operator(MAX_OPERATORS as usize));
-    }
-    Err(InputError::Operator(rest.len() / OPERATOR))
 }

@@ -1,10 +1,10 @@
 //! Tables as bytes: their number; for each its rows, its columns, and eight bytes a cell, low byte first.
-ghost use Rattle.std.specs.Prelude.{◌≡◌, true, ◌++◌, OnOk};
-ghost use Rattle.codec.specs.Input.{cells_in, table_whole, table_numbers, read_tables};
-ghost use Rattle.codec.specs.Reads.{size_of, TablesRead};
+ghost use Rattle.std.specs.Prelude.{◌≡◌, ◌++◌, OnOk};
+ghost use Rattle.codec.specs.Input.{read_tables};
+ghost use Rattle.codec.specs.Reads.{TableFound, front_numbers, TablesRead};
 
 use crate::input::{Decoded, InputError};
-use crate::words::push_words;
+use crate::words::{WORD, push_words};
 use std::alloc::{AllocError, Global};
 
 const MAX_TABLES: u8 = 8;
@@ -13,13 +13,18 @@ const MAX_ROWS: u8 = 32;
 
 const MAX_COLUMNS: u8 = 4;
 
-const HEAD: usize = 2;
+/// What bytes begin with, where that is a table: how many rows and columns it has, the bytes of its cells, and the bytes after it.
+#[derive(Clone, Copy)]
+struct FrontTable<'a> {
+    rows: u8,
+    columns: u8,
+    cells: &'a [u8],
+    rest: &'a [u8],
+}
 
-const WORD: usize = 8;
-
-/// How many cells the table at the front of `bytes` has, if it fits.
-fn size(bytes: &[u8]) -> Option<usize>
-    ensures { result ≡ size_of bytes.now }
+/// The table at the front of `bytes`, if it fits.
+fn table_at_front(bytes: &[u8]) -> Option<FrontTable<'_>>
+    ensures { TableFound bytes.now result }
 {
     let [rows, columns, cells @ ..] = bytes else {
         return None;
@@ -28,21 +33,22 @@ fn size(bytes: &[u8]) -> Option<usize>
         return None;
     }
     let count = *rows as usize * *columns as usize;
-    if WORD * count > cells.len() {
-        return None;
-    }
-    Some(count)
+    let (cells, rest) = cells.split_at_checked(WORD * count)?;
+    Some(FrontTable {
+        rows: *rows,
+        columns: *columns,
+        cells,
+        rest,
+    })
 }
 
-/// Appends the table at the front of `bytes`, which has `count` cells.
-fn push_table(numbers: &mut Vec<u64>, bytes: &[u8], count: usize) -> Result<(), AllocError>
-    requires whole { table_whole bytes.now ≡ true }
-    requires count { count ≡ cells_in bytes.now }
-    ensures { OnOk result (numbers.new.items ≡ numbers.old.items ++ table_numbers bytes.now) }
+/// Appends a table.
+fn push_table(numbers: &mut Vec<u64>, table: FrontTable<'_>) -> Result<(), AllocError>
+    ensures { OnOk result (numbers.new.items ≡ numbers.old.items ++ front_numbers table.entry) }
 {
-    numbers.push(u64::from(bytes[0]))?;
-    numbers.push(u64::from(bytes[1]))?;
-    push_words(numbers, &bytes[HEAD..], count)
+    numbers.push(u64::from(table.rows))?;
+    numbers.push(u64::from(table.columns))?;
+    push_words(numbers, table.cells)
 }
 
 /// The tables that `bytes` begin with, as memory holds them, or the first that does not fit: at most 32 rows, unlike in memory.
@@ -62,11 +68,9 @@ pub fn tables_in(heap: Global, bytes: &[u8]) -> Result<Decoded<'_>, InputError>
     numbers.push(u64::from(*count))?;
     let mut rest = rest;
     for t in 0..*count as usize {
-        let Some(cells) = size(rest) else {
-            return Err(InputError::Table(t));
-        };
-        push_table(&mut numbers, rest, cells)?;
-        rest = &rest[HEAD + WORD * cells..];
+        let table = table_at_front(rest).ok_or(InputError::Table(t))?;
+        push_table(&mut numbers, table)?;
+        rest = table.rest;
     }
     Ok(Decoded { numbers, rest })
 }

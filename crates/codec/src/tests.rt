@@ -1,5 +1,5 @@
 //! Bytes at their edges.
-use crate::{InputError, query_in, refused, tables_in};
+use crate::{InputError, Refused, push_parted, query_in, tables_in};
 use std::alloc::Global;
 use std::test::Fail;
 
@@ -91,7 +91,36 @@ fn a_query_is_cut_off_at_an_operator(rt: HostRuntime) -> Result<(), Fail> {
 
 #[test]
 fn a_refusal_has_its_number_and_its_place(rt: HostRuntime) -> Result<(), Fail> {
-    let line = refused(rt.alloc(), 2, 16)?;
+    let refused = Refused {
+        number: 2,
+        place: 16,
+    };
+    let line = refused.to_string(rt.alloc())?;
     assert_eq!(rt; line.as_str(), "refused 2 at 16");
+    Ok(())
+}
+
+#[test]
+fn an_input_error_tells_its_refusal(rt: HostRuntime) {
+    let table = Refused {
+        number: 1,
+        place: 8,
+    };
+    let operator = Refused {
+        number: 2,
+        place: 3,
+    };
+    assert_eq!(rt; InputError::Table(8).refusal(), Some(table));
+    assert_eq!(rt; InputError::Operator(3).refusal(), Some(operator));
+    assert_eq!(rt; InputError::NoMemory.refusal(), None);
+}
+
+#[test]
+fn numbers_stand_parted(rt: HostRuntime) -> Result<(), Fail> {
+    let mut text = String::new(rt.alloc());
+    push_parted(&mut text, "+", &[])?;
+    push_parted(&mut text, "+", &[2, 40, 3])?;
+    push_parted(&mut text, " ", &[7])?;
+    assert_eq!(rt; text.as_str(), "2+40+37");
     Ok(())
 }

@@ -1,6 +1,5 @@
 //! Counts and prices in one reading, and levels beside both.
 use crate::Pair;
-use query::Price;
 use semiring::{Counts, Levels, Prices, ReadError, read};
 use std::test::Fail;
 
@@ -13,9 +12,9 @@ fn counts_with_prices(rt: HostRuntime) -> Result<(), Fail> {
         first: Counts,
         second: Prices,
     };
-    let values = [(2, Price::Whole(5)), (3, Price::Whole(u64::MAX))];
+    let values = [(2, Some(5)), (3, Some(u64::MAX))];
     let sum = read(rt.alloc(), &both, &NODES, &[2], &values)?;
-    assert_eq!(rt; sum.as_slice(), [(5, Price::Whole(5))].as_slice());
+    assert_eq!(rt; sum.as_slice(), [(5, Some(5))].as_slice());
     let dear = read(rt.alloc(), &both, &NODES, &[3], &values).err();
     assert_eq!(rt;
         dear,
@@ -34,11 +33,11 @@ fn levels_beside_them(rt: HostRuntime) -> Result<(), Fail> {
             second: Prices,
         },
     };
-    let values = [(9, (2, Price::Whole(5))), (1, (3, Price::None))];
+    let values = [(9, (2, Some(5))), (1, (3, None))];
     let rows = read(rt.alloc(), &all, &NODES, &[2, 3], &values)?;
     assert_eq!(rt;
         rows.as_slice(),
-        [(3, (5, Price::Whole(5))), (1, (6, Price::None))].as_slice()
+        [(3, (5, Some(5))), (1, (6, None))].as_slice()
     );
     Ok(())
 }

@@ -1,15 +1,12 @@
 //! Reads stored answers from standard input, without the tables, and prints what a rule reads for each row.
 #![tactic(auto)]
 
-use anyhow::anyhow;
-use codec::refused;
-use query::Price;
-use rules::{ArgumentError, Command, Rule, line, prices, read_command};
+use rules::{Command, Rule, line, prices, read_command};
 use semiring::{ReadError, read_counts, read_levels, read_prices, read_sets};
 use std::alloc::{AllocError, Global};
 use std::env;
 use std::io::Read;
-use stored::{Answer, FileError, decode};
+use stored::{Answer, decode};
 
 const USAGE: &str = "usage: reread RULE [MARK=VALUE ..] [else=VALUE] < FILE
   count            how often a row comes about; marks count 1     reread count 3=3
@@ -21,53 +18,19 @@ A mark is 1024 x table + row, at most 7423.";
 
 /// The words of the command.
 fn words(rt: &HostRuntime) -> anyhow::Result<Vec<String>> {
-    let mut words = Vec::new(rt.alloc());
-    for word in env::args(rt)?.skip(1) {
-        words.push(word)?;
-    }
-    Ok(words)
-}
-
-/// What is wrong with the words of a command.
-fn complaint(error: ArgumentError) -> &'static str {
-    match error {
-        ArgumentError::NoMemory => "no memory",
-        ArgumentError::UnknownRule =>
-            "the first word is none of count, level, price, sets and without",
-        ArgumentError::NoTop => "level needs the highest class, as in level 3",
-        ArgumentError::NoSetting => "a word is no MARK=VALUE and no else=VALUE",
-        ArgumentError::NoNumber => "a mark or a value is no number below 2^64",
-        ArgumentError::NoMark => "a mark is above 7423",
-    }
-}
-
-/// What is wrong with a file.
-fn damage(error: FileError) -> &'static str {
-    match error {
-        FileError::NoMemory => "no memory",
-        FileError::Uneven => "the file is damaged: its length is no multiple of eight",
-        FileError::NotStored => "the file holds no stored answers",
-        FileError::Version(_) => "the file has another version than 1",
-        FileError::Width(_) => "the file is damaged: an answer has no width of 1 to 8",
-        FileError::CutOff(_) => "the file is damaged: an answer is cut off",
-        FileError::LeftOver => "the file is damaged: something follows the last answer",
-    }
+    Ok(env::args(rt)?.skip(1).collect(rt.alloc())?)
 }
 
 /// The nodes of the rows of an answer.
 fn asked(heap: Global, answer: &Answer) -> Result<Vec<u64>, AllocError> {
-    let mut asked = Vec::new(heap);
-    for i in 0..answer.rows.len() {
-        let Some([node, ..]) = answer.row(i) else {
-            break;
-        };
-        asked.push(*node)?;
-    }
-    Ok(asked)
+    answer
+        .rows()
+        .filter_map(|row| row.first().copied())
+        .collect(heap)
 }
 
 /// What a rule reads for each row of an answer.
-fn worths(heap: Global, command: &Command, answer: &Answer) -> Result<Vec<Price>, ReadError> {
+fn worths(heap: Global, command: &Command, answer: &Answer) -> Result<Vec<Option<u64>>, ReadError> {
     let asked = asked(heap, answer)?;
     let asked = asked.as_slice();
     let nodes = answer.nodes.as_slice();
@@ -90,17 +53,13 @@ fn print_answer(rt: &HostRuntime, command: &Command, answer: &Answer) -> anyhow:
     let worths = match worths(heap, command, answer) {
         Ok(worths) => worths,
         Err(error) => {
-            let Some(refusal) = error.refusal() else {
-                return Err(anyhow!("no memory"));
-            };
-            rt.println(refused(heap, refusal.number, refusal.place)?)?;
+            let refused = error.refusal().ok_or(error)?;
+            rt.println(refused)?;
             return Ok(());
         }
     };
-    for (i, worth) in worths.as_slice().iter().enumerate() {
-        let Some([_, cells @ ..]) = answer.row(i) else {
-            break;
-        };
+    for (row, worth) in answer.rows().zip(worths.as_slice()) {
+        let cells = row.get(1..).unwrap_or(&[]);
         rt.println(line(heap, cells, *worth)?)?;
     }
     Ok(())
@@ -114,15 +73,12 @@ fn run(rt: &HostRuntime) -> anyhow::Result<()> {
         Ok(command) => command,
         Err(error) => {
             rt.eprintln(USAGE)?;
-            return Err(anyhow!(complaint(error)));
+            return Err(error.into());
         }
     };
     let mut bytes = Vec::new(heap);
     rt.stdin().read_to_end(&mut bytes)?;
-    let answers = match decode(heap, bytes.as_slice()) {
-        Ok(answers) => answers,
-        Err(error) => return Err(anyhow!(damage(error))),
-    };
+    let answers = decode(heap, bytes.as_slice())?;
     for (i, answer) in answers.as_slice().iter().enumerate() {
         if i > 0 {
             rt.println("")?;

@@ -1,5 +1,6 @@
 -- The parts of a word that gives a value. Assumes nothing.
-use Rattle.std.proofs.Common.{◌≡◌, ℕ, ◌<◌, Bool, true, false, List, ◌∷◌, ◌++◌, length, get_or, Ok, Err, codes, inl, inr, arith}
+use Rattle.std.proofs.Common.{◌≡◌, ℕ, ◌<◌, Bool, true, false, List, ◌∷◌, ◌++◌, length, get_or, None, Ok, Err, codes, inl, inr, arith}
+use Rattle.std.specs.Option.{ok_or}
 use Rattle.rules.specs.declared.error.ArgumentError.{ArgumentError}
 use Rattle.rules.specs.declared.error.ArgumentError.TheVariants.{NoMemory, UnknownRule, NoTop, NoSetting, NoNumber, NoMark}
 use Rattle.rules.specs.declared.setting.Setting.TheVariants.{Mark, Others}
@@ -11,6 +12,11 @@ differs d p =
     let e = d.1 p in
     let z : ◌≡◌ {A = ℕ} 0 1 = cc in
     omega arith
+
+pub none_given : {T : Type 0} (bs : List ℕ) (e : ArgumentError) → Err e ≡ ok_or {T = T} None NoSetting → SettingRead bs (Err NoSetting) → SettingRead bs (Err e)
+none_given bs e f h =
+    let g : e ≡ NoSetting = cc in
+    rw g h
 
 module _ (bs name what : List ℕ) (p : (bs ≡ name ++ (61 ∷ what)) × ((i : ℕ) → i < length name → get_or name i 0 ≡ 61 → ⊥)) where
   split_of : Split bs name what

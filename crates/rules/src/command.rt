@@ -1,6 +1,6 @@
 //! What is asked, as the words of a command.
 use crate::numbers::{mark, number};
-use crate::{ArgumentError, Setting, read_setting, values};
+use crate::{ArgumentError, Setting, values};
 use std::alloc::Global;
 
 /// By which rule provenance is read.
@@ -25,21 +25,18 @@ pub struct Command {
 
 /// The settings that some words are.
 fn settings(heap: Global, words: &[String]) -> Result<Vec<Setting>, ArgumentError> {
-    let mut settings = Vec::new(heap);
-    for word in words {
-        settings.push(read_setting(word.as_str())?)?;
-    }
-    Ok(settings)
+    words
+        .iter()
+        .map(|word| word.as_str().parse::<Setting>())
+        .try_collect(heap)
 }
 
 /// Settings that take out the marks that some words are.
 fn taken_out(heap: Global, words: &[String]) -> Result<Vec<Setting>, ArgumentError> {
-    let mut settings = Vec::new(heap);
-    for word in words {
-        let mark = mark(word.as_str())?;
-        settings.push(Setting::Mark { mark, value: 0 })?;
-    }
-    Ok(settings)
+    words
+        .iter()
+        .map(|word| mark(word.as_str()).map(|mark| Setting::Mark { mark, value: 0 }))
+        .try_collect(heap)
 }
 
 /// A rule with the values that some words give.

@@ -32,6 +32,7 @@ fn give(values: &mut [u64], setting: Setting)
     ensures { values.new ≡ given values.old setting }
 {
     if let Setting::Mark { mark, value } = setting {
+        // By an index: after a write through `get_mut` the proof knows the slice only by names that are the prover's own.
         if (mark as usize) < values.len() {
             values[mark as usize] = value;
         }

@@ -12,5 +12,5 @@ pub use command::{Command, Rule, read_command};
 pub use error::ArgumentError;
 pub use giving::values;
 pub use numbers::prices;
-pub use setting::{Setting, read_setting};
+pub use setting::Setting;
 pub use text::line;

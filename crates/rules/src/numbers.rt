@@ -1,10 +1,8 @@
 //! Numbers of the words, and prices.
-ghost use Rattle.std.specs.Prelude.{◌≡◌, ◌<◌, map, IfOk};
-ghost use Rattle.query.specs.declared.Price.TheVariants.{Whole};
+ghost use Rattle.std.specs.Prelude.{◌≡◌, ◌<◌, map, IfOk, Some};
 ghost use Rattle.rules.specs.Words.{NumberRead, MarkRead};
 
 use crate::ArgumentError;
-use query::Price;
 use std::alloc::{AllocError, Global};
 
 /// The highest mark: row 255 of table 7.
@@ -14,10 +12,7 @@ pub(crate) const MAX_MARK: u64 = 7423;
 pub(crate) fn number(word: &str) -> Result<u64, ArgumentError>
     ensures { NumberRead word.now result }
 {
-    match word.parse::<u64>() {
-        Ok(number) => Ok(number),
-        Err(_) => Err(ArgumentError::NoNumber),
-    }
+    word.parse::<u64>().map_err(|_| ArgumentError::NoNumber)
 }
 
 /// The mark that a word is.
@@ -32,12 +27,8 @@ pub(crate) fn mark(word: &str) -> Result<u64, ArgumentError>
 }
 
 /// Each number as a price.
-pub fn prices(heap: Global, numbers: &[u64]) -> Result<Vec<Price>, AllocError>
-    ensures { IfOk result (λ v. v.items ≡ map Whole numbers.now) }
+pub fn prices(heap: Global, numbers: &[u64]) -> Result<Vec<Option<u64>>, AllocError>
+    ensures { IfOk result (λ v. v.items ≡ map Some numbers.now) }
 {
-    let mut prices = Vec::new(heap);
-    for number in numbers {
-        prices.push(Price::Whole(*number))?;
-    }
-    Ok(prices)
+    numbers.iter().map(|number| Some(*number)).collect(heap)
 }

@@ -3,6 +3,7 @@ ghost use Rattle.rules.specs.Words.{SettingRead};
 
 use crate::ArgumentError;
 use crate::numbers::{mark, number};
+use std::str::FromStr;
 
 /// A value that is given: to a mark, or to all marks that are given none.
 #[derive(Clone, Copy, PartialEq, Eq, Debug)]
@@ -12,16 +13,18 @@ pub enum Setting {
 }
 
 /// What a word gives: `MARK=VALUE`, or `else=VALUE`.
-pub fn read_setting(word: &str) -> Result<Setting, ArgumentError>
-    ensures { SettingRead word.now result }
-{
-    let Some((name, value)) = word.split_once('=') else {
-        return Err(ArgumentError::NoSetting);
-    };
-    let value = number(value)?;
-    if name == "else" {
-        return Ok(Setting::Others(value));
+impl FromStr for Setting {
+    type Err = ArgumentError;
+
+    ghost from_str_gives = { SettingRead };
+
+    fn from_str(word: &str) -> Result<Setting, ArgumentError> {
+        let (name, value) = word.split_once('=').ok_or(ArgumentError::NoSetting)?;
+        let value = number(value)?;
+        if name == "else" {
+            return Ok(Setting::Others(value));
+        }
+        let mark = mark(name)?;
+        Ok(Setting::Mark { mark, value })
     }
-    let mark = mark(name)?;
-    Ok(Setting::Mark { mark, value })
 }

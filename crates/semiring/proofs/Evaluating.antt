@@ -1,5 +1,6 @@
 -- Evaluating the chosen nodes from the first up. Assumes nothing.
-use Rattle.std.proofs.Common.{◌≡◌, ℕ, ◌+◌, ◌<◌, Bool, true, false, List, [], ◌∷◌, ◌++◌, length, get_or, sym, refl, ap, ◌∙◌, subst, ⊎_elim, arith}
+use Rattle.std.proofs.Common.{◌≡◌, ℕ, ◌+◌, ◌<◌, Bool, true, false, List, [], ◌∷◌, ◌++◌, length, get_or, None, Err, sym, refl, ap, ◌∙◌, subst, ⊎_elim, arith}
+use Rattle.std.specs.Option.{ok_or}
 use Rattle.std.proofs.lemmas.Bool.{cases_eq}
 use Rattle.std.proofs.lemmas.List.{get_or_append_left, get_or_push, length_push}
 use Rattle.circuit.specs.declared.Node.{Node}
@@ -7,10 +8,12 @@ use Rattle.circuit.specs.declared.Node.TheVariants.{Never, Always, Mark, Or, Bot
 use Rattle.circuit.specs.Store.{nodes_in}
 use Rattle.circuit.specs.Held.{count_in, NamesEarlier}
 use Rattle.circuit.proofs.NodeLists.{sound_names}
+use Rattle.semiring.specs.declared.errors.ReadError.{ReadError}
+use Rattle.semiring.specs.declared.errors.ReadError.TheVariants.{Overflow}
 use Rattle.semiring.specs.Algebra.{Algebra}
 use Rattle.semiring.specs.Needed.{Names}
 use Rattle.semiring.specs.Refusals.{given, value_at}
-use Rattle.semiring.specs.Parts.{Chosen, MarksValued, Valued, node_value, by_place, Evaluated, FirstLarge}
+use Rattle.semiring.specs.Parts.{Chosen, MarksValued, Valued, node_value, by_place, Evaluated, FirstLarge, NotEvaluated}
 use Rattle.semiring.proofs.NodeValues.{names_below, worth_node, node_value_same}
 
 -- a node whose mark is one of n values
@@ -44,8 +47,11 @@ module _ {V : Type 0} (a : Algebra V) (vs : List V) (m : List ℕ) (bs : List Bo
     evaluated_skip off x after q = subst (Evaluated a vs m bs (p + 1)) (sym q) (pushed x (λ on. absurd (grind arith)))
 
     -- a node n that is chosen; zs are the values at hand
-    module _ (c : Chosen m bs) (h : p < count_in m) (here : get_or bs p false ≡ true) (zs : List V) (n : Node) (e : zs ≡ ds)
+    module _ (c : Chosen m bs) (within : p < length bs) (here : get_or bs p false ≡ true) (zs : List V) (n : Node) (e : zs ≡ ds)
         (f : n ≡ get_or (nodes_in m) p Never) where
+      h : p < count_in m
+      h = let long = c.long in omega arith
+
       names : NamesEarlier p (get_or (nodes_in m) p Never)
       names = sound_names m c.sound p h
 
@@ -72,3 +78,9 @@ module _ {V : Type 0} (a : Algebra V) (vs : List V) (m : List ℕ) (bs : List Bo
 
       pub first_large : (a.fits (node_value a (given a vs) (by_place a zs) n) → ⊥) → FirstLarge a vs m bs p
       first_large large = record { chosen = here; large = λ fits. large (subst a.fits (sym node_is) fits); before = d.fit }
+
+  -- the error that says so
+  pub large_told : (e : ReadError) (p : ℕ) → Err e ≡ ok_or {T = V} None (Overflow p) → FirstLarge a vs m bs p → NotEvaluated a vs m bs e
+  large_told e p f large =
+      let g : e ≡ Overflow p = cc in
+      subst (NotEvaluated a vs m bs) (sym g) large

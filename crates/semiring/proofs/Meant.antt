@@ -1,10 +1,8 @@
 -- What is read in counts, levels, prices and sets means what the theory promises of them. Assumes nothing.
-use Rattle.std.proofs.Common.{◌≡◌, ℕ, ◌^◌, ◌<◌, ◌≤◌, eqb, ltb, List, get_or, IfOk, Ok, Err, Result, sym, refl, ◌∙◌, subst, mod-eq_of_lt, arith}
+use Rattle.std.proofs.Common.{◌≡◌, ℕ, ◌^◌, ◌<◌, ◌≤◌, eqb, ltb, List, get_or, IfOk, Some, None, Ok, Err, Result, sym, refl, ◌∙◌, subst, mod-eq_of_lt, arith}
 use Rattle.std.proofs.lemmas.Bool.Decides.{nat_tests}
 use Rattle.tables.specs.Tables.{Row}
-use Rattle.query.specs.declared.Price.{Price as Sum}
-use Rattle.query.specs.declared.Price.TheVariants.{None, Whole}
-use Rattle.query.specs.Semiring.{Count, Level, Price, Sets, bit}
+use Rattle.query.specs.Semiring.{Cost, Count, Level, Price, Sets, bit}
 use Rattle.query.specs.Query.{Query}
 use Rattle.circuit.specs.Expr.{value, provenance}
 use Rattle.provenance.specs.Polynomial.{normal}
@@ -41,12 +39,12 @@ levels_mean top vs m asked xs worth = record {
       (at_level ts q top l v r pos);
 }
 
-least_of : (ts : List (List Row)) (q : Query) (v : ℕ → Sum) (r : Row) (c : Sum) → value Price v (provenance ts q r) ≡ c →
+least_of : (ts : List (List Row)) (q : Query) (v : ℕ → Cost) (r : Row) (c : Cost) → value Price v (provenance ts q r) ≡ c →
     LeastOf v (normal (provenance ts q r)) c
 least_of ts q v r None e = (least_price ts q v r).1 e
-least_of ts q v r (Whole n) e = (least_price ts q v r).0 n e
+least_of ts q v r (Some n) e = (least_price ts q v r).0 n e
 
-pub prices_mean : (vs : List Sum) (m asked : List ℕ) (xs : List Sum) → Worth price_algebra vs m asked xs → PricesMean vs m asked xs
+pub prices_mean : (vs : List Cost) (m asked : List ℕ) (xs : List Cost) → Worth price_algebra vs m asked xs → PricesMean vs m asked xs
 prices_mean vs m asked xs worth = record {
   given_agree = record { lawful = λ k. tt; same = λ i k h e. refl };
   worth_read = worth.agreeing;

@@ -5,8 +5,7 @@ use Rattle.std.proofs.lemmas.List.{get_or_past}
 use Rattle.circuit.specs.declared.Node.{Node}
 use Rattle.circuit.specs.declared.Node.TheVariants.{Never, Mark}
 use Rattle.circuit.specs.Store.{nodes_in}
-use Rattle.circuit.specs.Held.{count_in}
-use Rattle.semiring.specs.Parts.{Chosen, ChosenMark, MarksValued}
+use Rattle.semiring.specs.Parts.{ChosenMark, MarksValued}
 
 -- a flag that is set is within the flags
 pub set_within : (bs : List Bool) (i : ℕ) → get_or bs i false ≡ true → i < length bs
@@ -31,5 +30,5 @@ module _ (n : ℕ) (m : List ℕ) (bs : List Bool) where
   pub valued_mark : (p mark : ℕ) → ValuedBelow p → Mark mark ≡ get_or (nodes_in m) p Never → mark < n → ValuedBelow (p + 1)
   valued_mark p mark below e h = valued_more p below (λ k w. let same : mark ≡ k = let f = w.mark in cc in omega arith)
 
-  pub valued_all : (p : ℕ) → Chosen m bs → ValuedBelow p → count_in m ≤ p → MarksValued n m bs
-  valued_all p c below h i k w = let l = set_within bs i w.chosen in let long = c.long in below i k (omega arith) w
+  pub valued_all : (p : ℕ) → ValuedBelow p → length bs ≤ p → MarksValued n m bs
+  valued_all p below h i k w = let l = set_within bs i w.chosen in below i k (omega arith) w

@@ -11,7 +11,7 @@ use Rattle.semiring.specs.Algebra.{Algebra, semiring}
 use Rattle.semiring.specs.Needed.{asked_for, named, MarksNeeded}
 use Rattle.semiring.specs.Refusals.{Good, Complete, HasNoValue, Overflows, NotRead, given}
 use Rattle.semiring.specs.Readings.{Reads, Agrees, AtRows, Worth}
-use Rattle.semiring.specs.Parts.{Chosen, MarksValued, FirstPast, Evaluated, FirstLarge, NotEvaluated, Picked}
+use Rattle.semiring.specs.Parts.{Chosen, MarksValued, FirstPast, ToldPast, Evaluated, FirstLarge, NotEvaluated, Picked}
 use Rattle.semiring.proofs.Valuing.{set_within}
 use Rattle.semiring.proofs.NodeValues.{worth_same}
 
@@ -43,7 +43,7 @@ module _ (m asked : List ℕ) (bs zs : List Bool) (e : zs ≡ bs) (good : Good m
     closed = λ i k on t. marks.all k (named i k (marks.only i on) t);
   }
 
-  pub past_no_value : (n k : ℕ) → FirstPast n m zs k → HasNoValue n m asked k
+  past_no_value : (n k : ℕ) → FirstPast n m zs k → HasNoValue n m asked k
   past_no_value n k f = record {
     good = good;
     node = f.node;
@@ -62,6 +62,12 @@ module _ (m asked : List ℕ) (bs zs : List Bool) (e : zs ≡ bs) (good : Good m
         let u = lacks.past in
         omega arith;
   }
+
+  pub past_not_read : {V : Type 0} (a : Algebra V) (vs : List V) (e : ReadError) → ToldPast (length vs) m zs e → NotRead a vs m asked e
+  past_not_read a vs NoMemory h = absurd h
+  past_not_read a vs (BadNode p) h = absurd h
+  past_not_read a vs (NoValue k) h = past_no_value (length vs) k h
+  past_not_read a vs (Overflow p) h = absurd h
 
   module _ {V : Type 0} (a : Algebra V) (vs : List V) (valued : MarksValued (length vs) m zs) where
     large_overflows : (p : ℕ) → FirstLarge a vs m zs p → Overflows a vs m asked p

@@ -1,9 +1,7 @@
 -- A semiring as code has it. Assumes nothing: these are definitions.
-use Rattle.std.specs.Prelude.{◌≡◌, ℕ, ◌%◌, ◌^◌, ◌<◌, ◌≤◌, Option}
+use Rattle.std.specs.Prelude.{◌≡◌, ℕ, ◌%◌, ◌^◌, ◌<◌, ◌≤◌, Some, None, Option}
 use Rattle.std.specs.Option.{SomeIff}
-use Rattle.query.specs.declared.Price.{Price as Sum}
-use Rattle.query.specs.declared.Price.TheVariants.{None, Whole}
-use Rattle.query.specs.Semiring.{Semiring, Count, Level, Price, Sets, smaller}
+use Rattle.query.specs.Semiring.{Semiring, Cost, Count, Level, Price, Sets, smaller}
 
 -- the operations on values V; the values on which the laws hold; those that the machine can hold; and what the value given for a mark is read as
 pub record Algebra (V : Type 0) : Type 1 where
@@ -42,12 +40,12 @@ abbrev pub level_algebra : ℕ → Algebra ℕ
 level_algebra top = algebra_of (Level top) (λ n. n ≤ top) (λ _. Unit {0}) (λ n. smaller n top)
 
 -- a price below 2^64, or none
-abbrev pub PriceFits : Sum → Type 0
+abbrev pub PriceFits : Cost → Type 0
 PriceFits None = Unit {0}
-PriceFits (Whole n) = n < 2 ^ 64
+PriceFits (Some n) = n < 2 ^ 64
 
 -- prices: all of them lawful
-abbrev pub price_algebra : Algebra Sum
+abbrev pub price_algebra : Algebra Cost
 price_algebra = algebra_of Price (λ _. Unit {0}) PriceFits (λ p. p)
 
 -- sets of 64 cases: lawful below 2^64, and all that the machine holds are; so each is read as it is

@@ -1,10 +1,8 @@
 -- What the values that are read mean, in each of the semirings with a name of their own: xs are what is read at the nodes asked for, with
 -- the values vs of the marks. Assumes nothing: these are definitions.
-use Rattle.std.specs.Prelude.{◌≡◌, ℕ, ◌<◌, ◌≤◌, Bool, List, length, nat_eq, nat_lt, slice_index, slice_index_or}
+use Rattle.std.specs.Prelude.{◌≡◌, ℕ, ◌<◌, ◌≤◌, Bool, List, length, Some, None, nat_eq, nat_lt, slice_index, slice_index_or}
 use Rattle.tables.specs.Bool.{pick}
-use Rattle.query.specs.declared.Price.{Price as Sum}
-use Rattle.query.specs.declared.Price.TheVariants.{None, Whole}
-use Rattle.query.specs.Semiring.{Count, Level, Price, Sets, bit, smaller}
+use Rattle.query.specs.Semiring.{Cost, Count, Level, Price, Sets, bit, smaller}
 use Rattle.query.specs.Query.{worth}
 use Rattle.circuit.specs.Expr.{provenance}
 use Rattle.provenance.specs.Polynomial.{Monomial, normal}
@@ -31,15 +29,15 @@ pub record LevelsMean (top : ℕ) (vs m asked xs : List ℕ) : Type 0 where
       (l : ℕ) → 0 < l → ExactlyWithout (l ≤ x) (λ k. nat_lt (v k) l) ts q r) xs
 
 -- c is the least price of some ways: none where no way has one
-abbrev pub LeastOf : (ℕ → Sum) → List Monomial → Sum → Type 0
+abbrev pub LeastOf : (ℕ → Cost) → List Monomial → Cost → Type 0
 LeastOf v ms None = Unpriced v ms
-LeastOf v ms (Whole c) = Least v ms c
+LeastOf v ms (Some c) = Least v ms c
 
 -- prices are those of the query; and what is read is the least price of the row's ways
-pub record PricesMean (vs : List Sum) (m asked : List ℕ) (xs : List Sum) : Type 0 where
+pub record PricesMean (vs : List Cost) (m asked : List ℕ) (xs : List Cost) : Type 0 where
   pub given_agree : Agrees price_algebra vs m asked (λ k. slice_index_or vs k None)
-  pub worth_read : AtRows price_algebra vs m asked (λ ts q r x. (v : ℕ → Sum) → Agrees price_algebra vs m asked v → x ≡ worth Price v ts q r) xs
-  pub least : AtRows price_algebra vs m asked (λ ts q r x. (v : ℕ → Sum) → Agrees price_algebra vs m asked v →
+  pub worth_read : AtRows price_algebra vs m asked (λ ts q r x. (v : ℕ → Cost) → Agrees price_algebra vs m asked v → x ≡ worth Price v ts q r) xs
+  pub least : AtRows price_algebra vs m asked (λ ts q r x. (v : ℕ → Cost) → Agrees price_algebra vs m asked v →
       LeastOf v (normal (provenance ts q r)) x) xs
 
 -- sets are those of the query; bit j is set exactly if the row comes about from the rows whose value has bit j; and with a bit for each

@@ -3,6 +3,7 @@ use Rattle.std.specs.Prelude.{◌≡◌, ℕ, ◌<◌, ◌≤◌, Bool, true, fa
 use Rattle.std.specs.declared.alloc.Global.{Global}
 use Rattle.circuit.specs.declared.Node.{Node}
 use Rattle.circuit.specs.declared.Node.TheVariants.{Never, Always, Mark, Or, Both}
+use Rattle.circuit.specs.declared.store.Store.{Store}
 use Rattle.circuit.specs.Store.{nodes_in}
 use Rattle.circuit.specs.Held.{Sound, count_in}
 use Rattle.semiring.specs.declared.errors.ReadError.{ReadError}
@@ -11,9 +12,16 @@ use Rattle.semiring.specs.Algebra.{Algebra, Tries}
 use Rattle.semiring.specs.Needed.{Names}
 use Rattle.semiring.specs.Refusals.{Good, Bad, given, value_at}
 
--- the store and the nodes asked for are good, or a node at fault is told
-abbrev pub ChecksNodes : List ℕ → List ℕ → Result (Unit {0}) ℕ → Type 0
-ChecksNodes m asked r = MatchResult r (λ _. Good m asked) (Bad m asked)
+-- e tells the node at fault
+abbrev pub ToldBad : List ℕ → List ℕ → ReadError → Type 0
+ToldBad m asked NoMemory = ⊥
+ToldBad m asked (BadNode p) = Bad m asked p
+ToldBad m asked (NoValue k) = ⊥
+ToldBad m asked (Overflow p) = ⊥
+
+-- the store is the memory, and it and the nodes asked for are good; or a node at fault is told
+abbrev pub ChecksNodes : List ℕ → List ℕ → Result Store ReadError → Type 0
+ChecksNodes m asked r = MatchResult r (λ s. (s.nodes.now ≡ m) × Good s.nodes.now asked) (ToldBad m asked)
 
 -- bs says of each node of a sound store whether it is to be read, and with a node those that it names
 pub record Chosen (m : List ℕ) (bs : List Bool) : Type 0 where
@@ -37,8 +45,15 @@ pub record FirstPast (n : ℕ) (m : List ℕ) (bs : List Bool) (k : ℕ) : Type 
   pub past : n ≤ k
   pub before : (i l : ℕ) → i < node → ChosenMark m bs i l → l < n
 
-abbrev pub ChecksMarks : ℕ → List ℕ → List Bool → Result (Unit {0}) ℕ → Type 0
-ChecksMarks n m bs r = MatchResult r (λ _. MarksValued n m bs) (FirstPast n m bs)
+-- e tells that mark
+abbrev pub ToldPast : ℕ → List ℕ → List Bool → ReadError → Type 0
+ToldPast n m bs NoMemory = ⊥
+ToldPast n m bs (BadNode p) = ⊥
+ToldPast n m bs (NoValue k) = FirstPast n m bs k
+ToldPast n m bs (Overflow p) = ⊥
+
+abbrev pub ChecksMarks : ℕ → List ℕ → List Bool → Result (Unit {0}) ReadError → Type 0
+ChecksMarks n m bs r = MatchResult r (λ _. MarksValued n m bs) (ToldPast n m bs)
 
 -- a mark is one of n values
 abbrev pub Valued : ℕ → Node → Type 0

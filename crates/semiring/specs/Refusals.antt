@@ -1,17 +1,17 @@
 -- Why nothing is read. A reading is refused for the first of these reasons that applies, in this order. Assumes nothing: these are definitions.
 use Rattle.std.specs.Prelude.{◌≡◌, ℕ, ◌<◌, ◌≤◌, ◌⊎◌, List, length, get_or, Some, None, Option, slice_index, slice_index_or}
+use Rattle.codec.specs.declared.output.Refused.{Refused}
 use Rattle.circuit.specs.declared.Node.TheVariants.{Never, Mark}
 use Rattle.circuit.specs.Expr.{value}
 use Rattle.circuit.specs.Store.{nodes_in, expr_of}
 use Rattle.circuit.specs.Held.{Sound, Amiss, count_in}
 use Rattle.semiring.specs.declared.errors.ReadError.{ReadError}
 use Rattle.semiring.specs.declared.errors.ReadError.TheVariants.{NoMemory, BadNode, NoValue, Overflow}
-use Rattle.semiring.specs.declared.errors.Refusal.{Refusal}
 use Rattle.semiring.specs.Algebra.{Algebra, semiring}
 use Rattle.semiring.specs.Needed.{Needed}
 
 -- the number of each refusal and the place that is told with it; want of memory has neither
-abbrev pub refusal_of : ReadError → Option Refusal
+abbrev pub refusal_of : ReadError → Option Refused
 refusal_of NoMemory = None
 refusal_of (BadNode node) = Some (record { number = 7; place = node })
 refusal_of (NoValue mark) = Some (record { number = 8; place = mark })

@@ -33,15 +33,15 @@ impl Semiring for Levels {
     }
 
     fn take(&self, value: u64) -> u64 {
-        if value < self.top { value } else { self.top }
+        value.min(self.top)
     }
 
     fn plus(&self, a: u64, b: u64) -> Option<u64> {
-        Some(if a < b { b } else { a })
+        Some(a.max(b))
     }
 
     fn times(&self, a: u64, b: u64) -> Option<u64> {
-        Some(if a < b { a } else { b })
+        Some(a.min(b))
     }
 }
 
@@ -56,5 +56,6 @@ pub fn read_levels(
     ensures read { ReadTold (level_algebra top) values.now nodes.now asked.now result }
     ensures means { IfOk result (λ xs. LevelsMean top values.now nodes.now asked.now xs.items) }
 {
+    // A function, and no member of the trait: its laws range over all numbers, and what sets mean holds of values below 2^64 alone.
     read(heap, &Levels { top }, nodes, asked, values)
 }

@@ -13,7 +13,7 @@ mod reading;
 
 pub use cases::{Sets, read_sets};
 pub use count::{Counts, read_counts};
-pub use errors::{ReadError, Refusal};
+pub use errors::ReadError;
 pub use level::{Levels, read_levels};
 pub use operations::Semiring;
 pub use price::{Prices, read_prices};

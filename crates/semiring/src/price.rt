@@ -7,7 +7,6 @@ ghost use Rattle.query.proofs.Named.{price_lawful};
 ghost use Rattle.std.proofs.Common.{rules};
 
 use crate::{ReadError, Semiring, read};
-use query::Price;
 use std::alloc::Global;
 
 /// The least price at which a row is to be had, if it is to be had at all.
@@ -15,7 +14,7 @@ use std::alloc::Global;
 pub struct Prices;
 
 impl Semiring for Prices {
-    type Value = Price;
+    type Value = Option<u64>;
 
     ghost algebra = { λ _. price_algebra };
 
@@ -23,32 +22,32 @@ impl Semiring for Prices {
 
     ghost admitted = { Prim.search rules };
 
-    fn zero(&self) -> Price {
-        Price::None
+    fn zero(&self) -> Option<u64> {
+        None
     }
 
-    fn one(&self) -> Price {
-        Price::Whole(0)
+    fn one(&self) -> Option<u64> {
+        Some(0)
     }
 
-    fn take(&self, value: Price) -> Price {
+    fn take(&self, value: Option<u64>) -> Option<u64> {
         value
     }
 
-    fn plus(&self, a: Price, b: Price) -> Option<Price> {
+    fn plus(&self, a: Option<u64>, b: Option<u64>) -> Option<Option<u64>> {
         match (a, b) {
-            (Price::None, _) => Some(b),
-            (_, Price::None) => Some(a),
-            (Price::Whole(x), Price::Whole(y)) => Some(Price::Whole(if x < y { x } else { y })),
+            (None, _) => Some(b),
+            (_, None) => Some(a),
+            (Some(x), Some(y)) => Some(Some(x.min(y))),
         }
     }
 
-    fn times(&self, a: Price, b: Price) -> Option<Price> {
-        let (Price::Whole(x), Price::Whole(y)) = (a, b) else {
-            return Some(Price::None);
+    fn times(&self, a: Option<u64>, b: Option<u64>) -> Option<Option<u64>> {
+        let (Some(x), Some(y)) = (a, b) else {
+            return Some(None);
         };
         let total = x.checked_add(y)?;
-        Some(Price::Whole(total))
+        Some(Some(total))
     }
 }
 
@@ -57,10 +56,11 @@ pub fn read_prices(
     heap: Global,
     nodes: &[u64],
     asked: &[u64],
-    values: &[Price],
-) -> Result<Vec<Price>, ReadError>
+    values: &[Option<u64>],
+) -> Result<Vec<Option<u64>>, ReadError>
     ensures read { ReadTold price_algebra values.now nodes.now asked.now result }
     ensures means { IfOk result (λ xs. PricesMean values.now nodes.now asked.now xs.items) }
 {
+    // A function, and no member of the trait: its laws range over all numbers, and what sets mean holds of values below 2^64 alone.
     read(heap, &Prices, nodes, asked, values)
 }

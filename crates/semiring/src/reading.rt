@@ -6,36 +6,36 @@ ghost use Rattle.semiring.specs.Readings.{ReadTold, WorthTold};
 
 use crate::needed::needed_by;
 use crate::{ReadError, Semiring};
-use circuit::{Node, check_store, known_node};
+use circuit::{Node, Store, check_store};
 use std::alloc::{AllocError, Global};
 
-/// Whether the store can be read and has the nodes asked for: else the first node at fault.
-fn check_nodes(nodes: &[u64], asked: &[u64]) -> Result<(), u64>
+/// The store that the memory is, if it can be read and has the nodes asked for: else the first node at fault.
+fn check_nodes<'a>(nodes: &'a [u64], asked: &[u64]) -> Result<Store<'a>, ReadError>
     ensures { ChecksNodes nodes.now asked.now result }
 {
-    check_store(nodes)?;
+    let store = check_store(nodes)?;
     for node in asked {
-        if *node >= nodes[0] {
-            return Err(*node);
+        if *node >= store.count() {
+            return Err(ReadError::BadNode(*node));
         }
     }
-    Ok(())
+    Ok(store)
 }
 
 /// Whether each mark among the chosen nodes is one of `count` values: else the first that is not.
-fn check_marks(nodes: &[u64], chosen: &[bool], count: usize) -> Result<(), u64>
-    requires { Chosen nodes.now chosen.now }
-    ensures { ChecksMarks count nodes.now chosen.now result }
+fn check_marks(store: Store<'_>, chosen: &[bool], count: usize) -> Result<(), ReadError>
+    requires { Chosen store.nodes.now chosen.now }
+    ensures { ChecksMarks count store.entry.nodes.now chosen.now result }
 {
-    for place in 0..nodes[0] {
-        if !chosen[place as usize] {
+    for (place, is_chosen) in chosen.iter().enumerate() {
+        if !*is_chosen {
             continue;
         }
-        let Node::Mark(mark) = known_node(nodes, place) else {
+        let Node::Mark(mark) = store.node(place as u64) else {
             continue;
         };
         if mark >= count as u64 {
-            return Err(mark);
+            return Err(ReadError::NoValue(mark));
         }
     }
     Ok(())
@@ -64,23 +64,23 @@ fn evaluate<S: Semiring>(
 fn evaluate_chosen<S: Semiring>(
     heap: Global,
     semiring: &S,
-    nodes: &[u64],
+    store: Store<'_>,
     chosen: &[bool],
     values: &[S::Value],
 ) -> Result<Vec<S::Value>, ReadError>
-    requires { (Chosen nodes.now chosen.now) × (MarksValued (length values.now) nodes.now chosen.now) }
-    ensures { Evaluates (S.algebra semiring.now) values.now nodes.now chosen.now result }
+    requires { (Chosen store.nodes.now chosen.now) × (MarksValued (length values.now) store.nodes.now chosen.now) }
+    ensures { Evaluates (S.algebra semiring.now) values.now store.entry.nodes.now chosen.now result }
 {
-    let mut done = Vec::with_capacity(heap, nodes[0] as usize)?;
-    for place in 0..nodes[0] {
-        if !chosen[place as usize] {
+    let mut done = Vec::with_capacity(heap, chosen.len())?;
+    for (place, is_chosen) in chosen.iter().enumerate() {
+        if !*is_chosen {
             done.push_reserved(semiring.zero());
             continue;
         }
-        let node = known_node(nodes, place);
-        let Some(value) = evaluate(semiring, node, done.as_slice(), values) else {
-            return Err(ReadError::Overflow(place));
-        };
+        let node = store.node(place as u64);
+        let value = evaluate(semiring, node, done.as_slice(), values).ok_or(ReadError::Overflow(
+            place as u64,
+        ))?;
         done.push_reserved(value);
     }
     Ok(done)
@@ -110,15 +110,11 @@ pub fn read<S: Semiring>(
     ensures read { ReadTold (S.algebra semiring.now) values.now nodes.now asked.now result }
     ensures worth { WorthTold (S.algebra semiring.now) values.now nodes.now asked.now result }
 {
-    if let Err(node) = check_nodes(nodes, asked) {
-        return Err(ReadError::BadNode(node));
-    }
-    let needed = needed_by(heap, nodes, asked)?;
+    let store = check_nodes(nodes, asked)?;
+    let needed = needed_by(heap, store, asked)?;
     let chosen = needed.as_slice();
-    if let Err(mark) = check_marks(nodes, chosen, values.len()) {
-        return Err(ReadError::NoValue(mark));
-    }
-    let done = evaluate_chosen(heap, semiring, nodes, chosen, values)?;
+    check_marks(store, chosen, values.len())?;
+    let done = evaluate_chosen(heap, semiring, store, chosen, values)?;
     let picked = pick(heap, done.as_slice(), asked)?;
     Ok(picked)
 }

@@ -1,6 +1,6 @@
 //! Each refusal at its edge, and in its order.
-use query::Price;
-use semiring::{ReadError, Refusal, read_counts, read_levels, read_prices, read_sets};
+use codec::Refused;
+use semiring::{ReadError, read_counts, read_levels, read_prices, read_sets};
 use std::test::Fail;
 
 const MAX: u64 = u64::MAX;
@@ -104,7 +104,7 @@ fn a_value_that_is_too_large(rt: HostRuntime) -> Result<(), Fail> {
 #[test]
 fn a_price_that_is_too_large(rt: HostRuntime) -> Result<(), Fail> {
     let heap = rt.alloc();
-    let dear = [Price::Whole(MAX), Price::Whole(1)];
+    let dear = [Some(MAX), Some(1)];
     assert_eq!(rt;
         read_prices(heap, &NODES, &[4], &dear).err(),
         Some(ReadError::Overflow(4)),
@@ -113,19 +113,19 @@ fn a_price_that_is_too_large(rt: HostRuntime) -> Result<(), Fail> {
     let least = read_prices(heap, &NODES, &[3], &dear)?;
     assert_eq!(rt;
         least.as_slice(),
-        [Price::Whole(1)].as_slice(),
+        [Some(1)].as_slice(),
         "the cheaper one"
     );
-    let free = read_prices(heap, &NODES, &[4], &[Price::Whole(MAX), Price::Whole(0)])?;
+    let free = read_prices(heap, &NODES, &[4], &[Some(MAX), Some(0)])?;
     assert_eq!(rt;
         free.as_slice(),
-        [Price::Whole(MAX)].as_slice(),
+        [Some(MAX)].as_slice(),
         "the largest price"
     );
-    let gone = read_prices(heap, &NODES, &[3, 4], &[Price::Whole(MAX), Price::None])?;
+    let gone = read_prices(heap, &NODES, &[3, 4], &[Some(MAX), None])?;
     assert_eq!(rt;
         gone.as_slice(),
-        [Price::Whole(MAX), Price::None].as_slice()
+        [Some(MAX), None].as_slice()
     );
     Ok(())
 }
@@ -135,21 +135,21 @@ fn numbers_and_places(rt: HostRuntime) {
     assert_eq!(rt; ReadError::NoMemory.refusal(), None);
     assert_eq!(rt;
         ReadError::BadNode(3).refusal(),
-        Some(Refusal {
+        Some(Refused {
             number: 7,
             place: 3,
         })
     );
     assert_eq!(rt;
         ReadError::NoValue(4).refusal(),
-        Some(Refusal {
+        Some(Refused {
             number: 8,
             place: 4,
         })
     );
     assert_eq!(rt;
         ReadError::Overflow(5).refusal(),
-        Some(Refusal {
+        Some(Refused {
             number: 9,
             place: 5,
         })

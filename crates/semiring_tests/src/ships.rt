@@ -1,5 +1,4 @@
 //! The worked example, ships and the holders of their licences, in every semiring.
-use query::Price;
 use semiring::{read_counts, read_levels, read_prices, read_sets};
 use std::test::Fail;
 
@@ -54,25 +53,25 @@ fn levels(rt: HostRuntime) -> Result<(), Fail> {
 
 #[test]
 fn prices(rt: HostRuntime) -> Result<(), Fail> {
-    let mut values = [Price::None; 1027];
-    values[0] = Price::Whole(5);
-    values[1] = Price::Whole(1);
-    values[2] = Price::Whole(4);
-    values[3] = Price::Whole(2);
-    values[1024] = Price::Whole(1);
-    values[1025] = Price::Whole(9);
-    values[1026] = Price::Whole(6);
+    let mut values = [None; 1027];
+    values[0] = Some(5);
+    values[1] = Some(1);
+    values[2] = Some(4);
+    values[3] = Some(2);
+    values[1024] = Some(1);
+    values[1025] = Some(9);
+    values[1026] = Some(6);
     let prices = read_prices(rt.alloc(), &NODES, &ROWS, &values)?;
     let expected = [
-        Price::Whole(6),
-        Price::Whole(7),
-        Price::Whole(11),
-        Price::Whole(8),
+        Some(6),
+        Some(7),
+        Some(11),
+        Some(8),
     ];
     assert_eq!(rt; prices.as_slice(), expected.as_slice());
-    values[1026] = Price::None;
+    values[1026] = None;
     let fewer = read_prices(rt.alloc(), &NODES, &ROWS, &values)?;
-    let expected = [Price::Whole(6), Price::None, Price::Whole(11), Price::None];
+    let expected = [Some(6), None, Some(11), None];
     assert_eq!(rt;
         fewer.as_slice(),
         expected.as_slice(),

@@ -1,19 +1,14 @@
 -- The parts of the answer at the front of numbers. Assumes nothing.
-use Rattle.std.proofs.Common.{◌≡◌, ℕ, ◌+◌, ◌-◌, ◌<◌, ◌≤◌, Bool, true, false, ◌&&◌, leb, List, [], ◌∷◌, length, get_or, take, drop, Some, None, Ok, Err, sym, refl, ◌∙◌, arith, le-leb}
+use Rattle.std.proofs.Common.{◌≡◌, ℕ, ◌+◌, ◌-◌, ◌<◌, ◌≤◌, Bool, true, false, ◌&&◌, leb, List, [], ◌∷◌, length, get_or, take, drop, None, Ok, Err, sym, refl, ◌∙◌, arith, le-leb}
 use borrow.Author.Tests.{lt-leb}
-use Rattle.std.proofs.lemmas.List.{take_rest, length-drop}
+use Rattle.std.specs.Option.{ok_or}
+use Rattle.std.proofs.lemmas.List.{take_rest, length-drop, drop-drop}
 use Rattle.std.proofs.lemmas.Bool.Decides.{nat_tests}
 use Rattle.tables.specs.Bool.{pick}
 use Rattle.stored.specs.declared.error.FileError.{FileError}
 use Rattle.stored.specs.declared.error.FileError.TheVariants.{CutOff, Width}
-use Rattle.stored.specs.declared.sizes.Sizes.{Sizes}
-use Rattle.stored.specs.Reads.{part_size, part_of, parts_at, all_of, whole, sizes_of, Fitting}
-
-part_none : (each : ℕ) (xs : List ℕ) → None ≡ part_of each xs → length xs < part_size each xs
-part_none each xs e = grind (arith, nat_tests)
-
-part_some : (each n : ℕ) (xs : List ℕ) → Some n ≡ part_of each xs → (part_size each xs ≤ length xs) × (n ≡ part_size each xs)
-part_some each n xs e = (grind (arith, nat_tests), grind (arith, nat_tests))
+use Rattle.stored.specs.declared.parts.Parts.{Parts}
+use Rattle.stored.specs.Reads.{Sizes, part_size, parts_at, all_of, whole, sizes_of, CutOut}
 
 pub no_answer : (k : ℕ) (xs : List ℕ) → length xs < 1 → Err (CutOff k) ≡ sizes_of k xs
 unfolding sizes_of
@@ -29,9 +24,6 @@ bad_width k (w ∷ xs) h e = grind (arith, nat_tests)
 abbrev rest : List ℕ → List ℕ
 rest xs = take (length xs - 1) (drop 1 xs)
 
-abbrev after : ℕ → List ℕ → List ℕ
-after n xs = take (length xs - n) (drop n xs)
-
 pub wide_enough : (k : ℕ) (xs : List ℕ) → 1 ≤ length xs → 1 ≤ get_or xs 0 0 → get_or xs 0 0 ≤ 8 →
     sizes_of k xs ≡ pick (whole xs) (Ok (parts_at xs)) (Err (CutOff k))
 unfolding sizes_of
@@ -39,30 +31,42 @@ wide_enough k [] some l h = absurd (omega arith)
 wide_enough k (w ∷ xs) some l h = rw (le-leb 1 w l, le-leb w 8 h)
 
 module _ (k : ℕ) (xs : List ℕ) (some : 1 ≤ length xs) (l : 1 ≤ get_or xs 0 0) (h : get_or xs 0 0 ≤ 8) where
-  pub nodes_cut : None ≡ part_of 3 (rest xs) → Err (CutOff k) ≡ sizes_of k xs
+  pub nodes_cut : length (rest xs) < part_size 3 (rest xs) → Err (CutOff k) ≡ sizes_of k xs
   nodes_cut e =
-      let p : length (drop 1 xs) < part_size 3 (drop 1 xs) = rw (take_rest xs 1) at (part_none 3 (rest xs) e) in
+      let p : length (drop 1 xs) < part_size 3 (drop 1 xs) = rw (take_rest xs 1) at e in
       sym (wide_enough k xs some l h ∙ rw (lt-leb (part_size 3 (drop 1 xs)) (length (drop 1 xs)) p))
 
-  pub rows_cut : (n : ℕ) → Some n ≡ part_of 3 (rest xs) → None ≡ part_of (1 + get_or xs 0 0) (after n (rest xs)) → Err (CutOff k) ≡ sizes_of k xs
-  rows_cut n e f =
-      let p : (part_size 3 (drop 1 xs) ≤ length (drop 1 xs)) × (n ≡ part_size 3 (drop 1 xs)) = part_some 3 n (drop 1 xs) (rw (take_rest xs 1) at e) in
-      let m : ℕ = part_size 3 (drop 1 xs) in
-      let g : None ≡ part_of (1 + get_or xs 0 0) (drop m (drop 1 xs)) = rw (take_rest xs 1, take_rest (drop 1 xs) n, p.1) at f in
-      let q = part_none (1 + get_or xs 0 0) (drop m (drop 1 xs)) g in
-      let z : length xs < all_of (parts_at xs) = omega (arith, q, length-drop m (drop 1 xs), length-drop 1 xs, p.0) in
-      sym (wide_enough k xs some l h ∙ rw (le-leb m (length (drop 1 xs)) p.0, lt-leb (all_of (parts_at xs)) (length xs) z))
+  module _ (ys : List ℕ) (e : part_size 3 (rest xs) ≤ length (rest xs)) (f : ys ≡ drop (part_size 3 (rest xs)) (rest xs)) where
+    pub rows_cut : length ys < part_size (1 + get_or xs 0 0) ys → Err (CutOff k) ≡ sizes_of k xs
+    rows_cut g =
+        let m : ℕ = part_size 3 (drop 1 xs) in
+        let p : m ≤ length (drop 1 xs) = rw (take_rest xs 1) at e in
+        let i : ys ≡ drop m (drop 1 xs) = rw (take_rest xs 1) at f in
+        let q : length (drop m (drop 1 xs)) < part_size (1 + get_or xs 0 0) (drop m (drop 1 xs)) = rw i at g in
+        let z : length xs < all_of (parts_at xs) = omega (arith, q, length-drop m (drop 1 xs), length-drop 1 xs, p) in
+        sym (wide_enough k xs some l h ∙ rw (le-leb m (length (drop 1 xs)) p, lt-leb (all_of (parts_at xs)) (length xs) z))
 
-  pub all_measured : (n r : ℕ) → Some n ≡ part_of 3 (rest xs) → Some r ≡ part_of (1 + get_or xs 0 0) (after n (rest xs)) →
-      Ok (record { width = get_or xs 0 0; nodes = n; rows = r }) ≡ sizes_of k xs
-  all_measured n r e f =
-      let p : (part_size 3 (drop 1 xs) ≤ length (drop 1 xs)) × (n ≡ part_size 3 (drop 1 xs)) = part_some 3 n (drop 1 xs) (rw (take_rest xs 1) at e) in
-      let m : ℕ = part_size 3 (drop 1 xs) in
-      let g : Some r ≡ part_of (1 + get_or xs 0 0) (drop m (drop 1 xs)) = rw (take_rest xs 1, take_rest (drop 1 xs) n, p.1) at f in
-      let q = part_some (1 + get_or xs 0 0) r (drop m (drop 1 xs)) g in
-      let z : all_of (parts_at xs) ≤ length xs = omega (arith, q.0, length-drop m (drop 1 xs), length-drop 1 xs, p.0) in
-      sym (wide_enough k xs some l h
-      ∙ rw (le-leb m (length (drop 1 xs)) p.0, le-leb (all_of (parts_at xs)) (length xs) z, p.1, q.1))
+    pub all_cut : (p : Parts) → p.width ≡ get_or xs 0 0 → p.nodes.now ≡ take (part_size 3 (rest xs)) (rest xs) →
+        part_size (1 + get_or xs 0 0) ys ≤ length ys → p.rows.now ≡ take (part_size (1 + get_or xs 0 0) ys) ys →
+        p.rest.now ≡ drop (part_size (1 + get_or xs 0 0) ys) ys → CutOut k xs p
+    all_cut parts w n g r b =
+        let m : ℕ = part_size 3 (drop 1 xs) in
+        let p : m ≤ length (drop 1 xs) = rw (take_rest xs 1) at e in
+        let i : ys ≡ drop m (drop 1 xs) = rw (take_rest xs 1) at f in
+        let q : part_size (1 + get_or xs 0 0) (drop m (drop 1 xs)) ≤ length (drop m (drop 1 xs)) = rw i at g in
+        let z : all_of (parts_at xs) ≤ length xs = omega (arith, q, length-drop m (drop 1 xs), length-drop 1 xs, p) in
+        record {
+          sizes = parts_at xs;
+          fit = sym (wide_enough k xs some l h ∙ rw (le-leb m (length (drop 1 xs)) p, le-leb (all_of (parts_at xs)) (length xs) z));
+          held = rw (w, n, r, i, take_rest xs 1, drop-drop m 1 xs);
+          rest = b ∙ rw (i, drop-drop m 1 xs, drop-drop (part_size (1 + get_or xs 0 0) (drop (1 + m) xs)) (1 + m) xs);
+        }
+
+-- the error that the code gives is the one that is meant
+pub cut_told : {T : Type 0} (k : ℕ) (xs : List ℕ) (d e : FileError) → Err d ≡ ok_or {T = T} None e → Err e ≡ sizes_of k xs → Err d ≡ sizes_of k xs
+cut_told k xs d e f h =
+    let g : d ≡ e = cc in
+    rw g h
 
 -- what is known of the answer at the front of xs, if it is measured
 pub record Measured (xs : List ℕ) (s : Sizes) : Type 0 where
@@ -91,8 +95,3 @@ measured k (w ∷ xs) s e =
       all_there = let q = p.1 in grind (arith, nat_tests);
       is = p.2;
     }
-
-pub within : (k : ℕ) (xs : List ℕ) (s : Sizes) → Ok s ≡ sizes_of k xs → Fitting s xs
-within k xs s e =
-    let m = measured k xs s e in
-    rw m.is m.all_there

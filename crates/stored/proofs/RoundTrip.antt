@@ -10,9 +10,8 @@ use Rattle.codec.specs.Bytes.{numbers}
 use Rattle.stored.specs.declared.Answer.{Answer}
 use Rattle.stored.specs.declared.error.FileError.{FileError}
 use Rattle.stored.specs.declared.error.FileError.TheVariants.{Uneven, NotStored, Version, LeftOver}
-use Rattle.stored.specs.declared.sizes.Sizes.{Sizes}
 use Rattle.stored.specs.Form.{Held, written, numbers_of, magic, file_numbers, file}
-use Rattle.stored.specs.Reads.{held, FileRead, Outcome, holds, damaged, part_size, parts_at, all_of, whole, sizes_of, answer_in, behind, then_read, answers_from, read_numbers, read_file}
+use Rattle.stored.specs.Reads.{Sizes, held, FileRead, Outcome, holds, damaged, part_size, parts_at, all_of, whole, sizes_of, answer_in, behind, then_read, answers_from, read_numbers, read_file}
 use Rattle.stored.specs.RoundTrip.{Shaped, Storable, RoundTrip}
 use Rattle.stored.proofs.Backward.{length_written, numbers_written, written_numbers}
 use Rattle.stored.proofs.Measured.{Measured, measured, wide_enough}

@@ -8,9 +8,9 @@ use Rattle.std.specs.declared.alloc.Global.{Global}
 use Rattle.stored.specs.declared.Answer.{Answer}
 use Rattle.stored.specs.declared.error.FileError.{FileError}
 use Rattle.stored.specs.declared.error.FileError.TheVariants.{NoMemory, Uneven, NotStored, Version, Width, CutOff, LeftOver}
-use Rattle.stored.specs.declared.sizes.Sizes.{Sizes}
+use Rattle.stored.specs.declared.parts.Parts.{Parts}
 use Rattle.stored.specs.Form.{Held, magic}
-use Rattle.stored.specs.Reads.{held, Outcome, holds, damaged, all_of, sizes_of, answer_in, behind, then_read, answers_from, read_numbers, read_file, NumbersRead, FileRead}
+use Rattle.stored.specs.Reads.{Sizes, held, held_in, CutOut, Outcome, holds, damaged, all_of, sizes_of, answer_in, behind, then_read, answers_from, read_numbers, read_file, NumbersRead, FileRead}
 
 behind_none : (o : Outcome) → behind [] o ≡ o
 behind_none (holds hs) = refl
@@ -52,12 +52,13 @@ from_on : (k n : ℕ) (xs : List ℕ) (s : Sizes) → k < n → Ok s ≡ sizes_o
 from_on k n xs s h e = from_more k n xs h ∙ rw (← e)
 
 -- the code's step past an answer
-pub read_on : (o : Outcome) (k n : ℕ) (out more : List Answer) (xs next : List ℕ) (s : Sizes) (a : Answer) → k < n →
-    o ≡ behind (map held out) (answers_from k (n - k) xs) → Ok s ≡ sizes_of k xs → held a ≡ answer_in s xs → more ≡ out ++ a ∷ [] →
-    next ≡ drop (all_of s) xs → o ≡ behind (map held more) (answers_from (k + 1) (n - (k + 1)) next)
-read_on o k n out more xs next s a h i e f g r =
-    rw (r, g, map_push held out a, f)
-    (i ∙ ap (behind (map held out)) (from_on k n xs s h e) ∙ behind_behind (map held out) (answer_in s xs ∷ []) _)
+pub read_on : (o : Outcome) (k n : ℕ) (out more : List Answer) (xs : List ℕ) (p : Parts) (a : Answer) → k < n →
+    o ≡ behind (map held out) (answers_from k (n - k) xs) → CutOut k xs p → held a ≡ held_in p → more ≡ out ++ a ∷ [] →
+    o ≡ behind (map held more) (answers_from (k + 1) (n - (k + 1)) p.rest.now)
+read_on o k n out more xs p a h i c f g =
+    let s : Sizes = c.sizes in
+    rw (c.rest, g, map_push held out a, f, c.held)
+    (i ∙ ap (behind (map held out)) (from_on k n xs s h c.fit) ∙ behind_behind (map held out) (answer_in s xs ∷ []) _)
 
 pub read_off : (o : Outcome) (k n : ℕ) (out : List Answer) (xs : List ℕ) (e : FileError) → k < n →
     o ≡ behind (map held out) (answers_from k (n - k) xs) → Err e ≡ sizes_of k xs → o ≡ damaged e

@@ -1,12 +1,13 @@
 -- What bytes are read as. Assumes nothing: these are definitions.
-use Rattle.std.specs.Prelude.{◌≡◌, ℕ, zero, suc, ◌+◌, ◌*◌, ◌/◌, ◌%◌, ◌≤◌, Bool, ◌&&◌, List, [], ◌∷◌, ◌++◌, map, length, take, drop, Some, None, Ok, Err, vec_items, Option, Result, Vec, ◌==◌, nat_le, slice_index}
+use Rattle.std.specs.Prelude.{◌≡◌, ℕ, zero, suc, ◌+◌, ◌*◌, ◌/◌, ◌%◌, ◌<◌, ◌≤◌, Bool, ◌&&◌, List, [], ◌∷◌, ◌++◌, map, length, take, drop, Ok, Err, vec_items, Option, Result, MatchOption, MatchResult, Vec, ◌==◌, nat_le, slice_index}
+use Rattle.std.specs.Borrow.{Bor}
 use Rattle.std.specs.declared.alloc.Global.{Global}
 use Rattle.tables.specs.Bool.{pick}
 use Rattle.codec.specs.Bytes.{numbers}
 use Rattle.stored.specs.declared.Answer.{Answer}
 use Rattle.stored.specs.declared.error.FileError.{FileError}
 use Rattle.stored.specs.declared.error.FileError.TheVariants.{NoMemory, Uneven, NotStored, Version, Width, CutOff, LeftOver}
-use Rattle.stored.specs.declared.sizes.Sizes.{Sizes}
+use Rattle.stored.specs.declared.parts.Parts.{Parts}
 use Rattle.stored.specs.Form.{Held, magic}
 
 -- an answer of the code
@@ -21,9 +22,11 @@ pub data Outcome : Type 0 where
 abbrev pub part_size : ℕ → List ℕ → ℕ
 part_size each xs = 1 + each * slice_index xs 0
 
--- the same, if they are all there
-abbrev pub part_of : ℕ → List ℕ → Option ℕ
-part_of each xs = pick (nat_le (part_size each xs) (length xs)) (Some (part_size each xs)) None
+-- how many cells the rows of an answer have, and how many numbers its nodes and its rows take, with their counts
+pub record Sizes : Type 0 where
+  pub width : ℕ
+  pub nodes : ℕ
+  pub rows : ℕ
 
 -- the parts of the answer that xs begin with: its width, what its nodes take, and what its rows take
 abbrev pub parts_at : List ℕ → Sizes
@@ -51,10 +54,6 @@ sizes_of k (w ∷ xs) = pick (nat_le 1 w && nat_le w 8) (pick (whole (w ∷ xs))
 abbrev pub answer_in : Sizes → List ℕ → Held
 answer_in s xs = record { width = s.width; nodes = take s.nodes (drop 1 xs); rows = take s.rows (drop (1 + s.nodes) xs) }
 
--- the parts are within xs
-abbrev pub Fitting : Sizes → List ℕ → Type 0
-Fitting s xs = all_of s ≤ length xs
-
 -- answers before others
 abbrev pub behind : List Held → Outcome → Outcome
 behind hs (holds more) = holds (hs ++ more)
@@ -80,6 +79,26 @@ read_numbers xs =
 -- bytes are numbers of eight bytes each
 unfoldable pub read_file : List ℕ → Outcome
 read_file bs = pick (length bs % 8 == 0) (read_numbers (numbers (length bs / 8) bs)) (damaged Uneven)
+
+-- the code cuts a count and what it counts from the front of xs, if all of it is there
+abbrev pub PartCut : ℕ → List ℕ → Option (Bor (List ℕ) × Bor (List ℕ)) → Type 0
+PartCut each xs r =
+    MatchOption r (length xs < part_size each xs)
+    (λ p. (part_size each xs ≤ length xs) × (p.0.now ≡ take (part_size each xs) xs) × (p.1.now ≡ drop (part_size each xs) xs))
+
+-- the answer that the code has cut out
+abbrev pub held_in : Parts → Held
+held_in p = record { width = p.width; nodes = p.nodes.now; rows = p.rows.now }
+
+-- it is answer k, at the front of xs, and these are the numbers behind it
+pub record CutOut (k : ℕ) (xs : List ℕ) (p : Parts) : Type 0 where
+  pub sizes : Sizes
+  pub fit : Ok sizes ≡ sizes_of k xs
+  pub held : held_in p ≡ answer_in sizes xs
+  pub rest : p.rest.now ≡ drop (all_of sizes) xs
+
+abbrev pub PartsCut : ℕ → List ℕ → Result Parts FileError → Type 0
+PartsCut k xs r = MatchResult r (CutOut k xs) (λ e. Err e ≡ sizes_of k xs)
 
 -- the code gives the numbers of whole words
 abbrev pub NumbersRead : List ℕ → Result (Vec ℕ Global) FileError → Type 0

@@ -1,35 +1,25 @@
 //! Answers read from bytes.
-ghost use Rattle.std.specs.Prelude.{◌≡◌, map, drop, IfOk};
+ghost use Rattle.std.specs.Prelude.{◌≡◌, map, IfOk};
 ghost use Rattle.stored.specs.Form.{file};
-ghost use Rattle.stored.specs.Reads.{read_file, read_numbers, FileRead, answer_in, held, all_of, Fitting};
+ghost use Rattle.stored.specs.Reads.{read_file, read_numbers, FileRead, held, held_in};
 
 use crate::encoding::{MAGIC, VERSION};
 use crate::numbers::numbers_in;
-use crate::sizes::{Sizes, measure};
+use crate::parts::{Parts, cut_out};
 use crate::{Answer, FileError};
 use std::alloc::{AllocError, Global};
 
-/// The answer at the front of `numbers`, whose parts are known.
-fn first_answer(heap: Global, numbers: &[u64], parts: Sizes) -> Result<Answer, AllocError>
-    requires { Fitting parts numbers.now }
-    ensures { IfOk result (λ a. held a ≡ answer_in parts numbers.now) }
+/// An answer whose parts are known.
+fn owned(heap: Global, parts: Parts<'_>) -> Result<Answer, AllocError>
+    ensures { IfOk result (λ a. held a ≡ held_in parts.entry) }
 {
-    let rows = 1 + parts.nodes;
-    let nodes = Vec::from_slice(heap, &numbers[1..rows])?;
-    let rows = Vec::from_slice(heap, &numbers[rows..rows + parts.rows])?;
+    let nodes = Vec::from_slice(heap, parts.nodes)?;
+    let rows = Vec::from_slice(heap, parts.rows)?;
     Ok(Answer {
         width: parts.width,
         nodes,
         rows,
     })
-}
-
-/// The numbers behind an answer whose parts are known.
-fn after(numbers: &[u64], parts: Sizes) -> &[u64]
-    requires { Fitting parts numbers.now }
-    ensures { result.now ≡ drop (all_of parts) numbers.now }
-{
-    &numbers[1 + parts.nodes + parts.rows..]
 }
 
 /// The answers that some numbers are.
@@ -48,10 +38,9 @@ fn answers_in(heap: Global, numbers: &[u64]) -> Result<Vec<Answer>, FileError>
     let mut answers = Vec::new(heap);
     let mut rest = rest;
     for place in 0..*count {
-        let parts = measure(rest, place)?;
-        let answer = first_answer(heap, rest, parts)?;
-        answers.push(answer)?;
-        rest = after(rest, parts);
+        let parts = cut_out(rest, place)?;
+        answers.push(owned(heap, parts)?)?;
+        rest = parts.rest;
     }
     if !rest.is_empty() {
         return Err(FileError::LeftOver);

@@ -5,9 +5,9 @@ mod decoding;
 mod encoding;
 mod error;
 mod numbers;
+mod parts;
 mod round_trip;
 mod rows;
-mod sizes;
 
 pub use decoding::decode;
 pub use encoding::encode;

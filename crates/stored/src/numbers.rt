@@ -34,6 +34,6 @@ pub(crate) fn numbers_in(heap: Global, bytes: &[u8]) -> Result<Vec<u64>, FileErr
         return Err(FileError::Uneven);
     }
     let mut numbers = Vec::new(heap);
-    push_words(&mut numbers, bytes, bytes.len() / WORD)?;
+    push_words(&mut numbers, bytes)?;
     Ok(numbers)
 }

@@ -1,11 +1,9 @@
-use Rattle.std.proofs.Common.{sym, append-nil}
-use Rattle.codec.specs.Bytes.{numbers}
-use Rattle.codec.proofs.Bytes.{numbers_pushed}
+use Rattle.std.proofs.Common.{◌/◌, ◌++◌, map, length, vec_items, List, ℕ, ap, ◌∙◌}
+use Rattle.std.proofs.lemmas.List.{take_all}
+use Rattle.codec.proofs.Bytes.{eight, numbers_mapped}
 use Rattle.codec.proofs.words.push_words.Goals as goal
 
-pub loop-i-init : goal.loop-i-init
-unfolding numbers
-loop-i-init c = sym (append-nil _)
-
-pub loop-i-preserved : goal.loop-i-preserved
-loop-i-preserved c = numbers_pushed _ _ _ c.loop-i.i _ c.args.bytes.now c.in_ok-push.ensures.items c.loop-i.invariant c.word.ensures
+pub returns : goal.returns
+returns c =
+    let e = ap (map eight) (take_all c.loop-word.word-index c.as_chunks.result.0.now c.loop-word-test.false ∙ c.as_chunks.ensures.front) in
+    c.loop-word.invariant ∙ ap (λ (ns : List ℕ). vec_items c.args.memory.now ++ ns) (e ∙ numbers_mapped (length c.args.bytes.now / 8) c.args.bytes.now)

@@ -4,7 +4,7 @@ use Rattle.semiring.proofs.Marking.{asked_none, asked_more, marking_none, markin
 use Rattle.semiring.proofs.needed.needed_by.Goals as goal
 
 pub loop-node-init : goal.loop-node-init
-loop-node-init c = rw (c.in_ok-needed.ensures.items_if_clones_equal (λ y e. e)) (asked_none _ _ _)
+loop-node-init c = rw (c.in_ok-needed.ensures.items_if_clones_equal (λ y e. e), c.count.ensures) (asked_none _ _ _)
 
 pub loop-node-preserved : goal.loop-node-preserved
 loop-node-preserved c =
@@ -15,18 +15,18 @@ loop-place-init c = marking_none _ _ _ _ c.loop-node.node-index _ c.loop-node-te
 
 pub index_mut-requires-in-Or : goal.index_mut-requires-in-Or
 index_mut-requires-in-Or c =
-    let below = turn_below _ c.requires.sound c.loop-place.place _ _ (omega arith) (omega arith) _ c.known_node.ensures c.in-Or.is in
+    let below = turn_below _ c.requires.sound c.loop-place.place _ _ (omega arith) (omega arith) _ c.node.ensures c.in-Or.is in
     omega arith
 
 pub index_mut-requires-in-Or-2 : goal.index_mut-requires-in-Or-2
 index_mut-requires-in-Or-2 c =
-    let below = turn_below _ c.requires.sound c.loop-place.place _ _ (omega arith) (omega arith) _ c.known_node.ensures c.in-Or.is in
+    let below = turn_below _ c.requires.sound c.loop-place.place _ _ (omega arith) (omega arith) _ c.node.ensures c.in-Or.is in
     omega arith
 
 pub loop-place-preserved : goal.loop-place-preserved
 loop-place-preserved c =
     let here : get_or c.loop-place.needed.items (c.loop-place.place - 1) false ≡ true = search (rules, get_or_read) in
-    marking_more _ c.requires.sound c.loop-place.place _ _ (omega arith) (omega arith) _ c.known_node.ensures c.in-Or.is
+    marking_more _ c.requires.sound c.loop-place.place _ _ (omega arith) (omega arith) _ c.node.ensures c.in-Or.is
     _ _ c.loop-place.invariant here
 
 pub returns : goal.returns

@@ -19,12 +19,10 @@ loop-place-init c = start_read c.args.numbers.now _ (search rules) (omega arith)
 pub returns-in_err-parts : goal.returns-in_err-parts
 returns-in_err-parts c =
     let p = err_from_is_err_and c.from_residual.result c.from_residual.ensures.1 in
-    rw (p.1, p.2) (error_read _ _ (read_off _ _ _ _ _ _ (omega arith) c.loop-place.invariant c.in_err-parts.ensures.parts))
+    rw (p.1, p.2) (error_read _ _ (read_off _ _ _ _ _ _ (omega arith) c.loop-place.invariant c.in_err-parts.ensures))
 
 pub loop-place-preserved : goal.loop-place-preserved
-loop-place-preserved c =
-    read_on _ _ _ _ _ _ _ c.in_ok-parts.parts c.in_ok-answer.answer (omega arith) c.loop-place.invariant
-    c.in_ok-parts.ensures.parts c.in_ok-answer.ensures c.in_ok-push.ensures.items c.after-rest.ensures
+loop-place-preserved c = read_on _ _ _ _ _ _ _ _ (omega arith) c.loop-place.invariant c.in_ok-parts.ensures c.in_ok-owned.ensures c.in_ok-push.ensures.items
 
 pub returns-then-not-is_empty : goal.returns-then-not-is_empty
 returns-then-not-is_empty c = read_left _ _ _ _ _ (omega arith) (λ e. grind (arith, nat_tests, c.if-not-is_empty.ensures)) c.loop-place.invariant
