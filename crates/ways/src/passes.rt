@@ -7,6 +7,7 @@ use crate::root::Root;
 use circuit::Node;
 use std::alloc::{AllocError, Global};
 
+// That a node names earlier places than a row is long stays a clause: it is of a node and a row, and no value here holds both.
 /// Whether a node comes to nothing, by whether the nodes before it do.
 fn empty_node(node: Node, empty: &[bool]) -> bool
     requires { NamesEarlier (length empty.now) node }
