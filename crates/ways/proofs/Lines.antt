@@ -1,36 +1,12 @@
 -- Text that is written piece by piece. Assumes nothing.
-use Rattle.std.proofs.Common.{◌≡◌, ℕ, ◌+◌, ◌<◌, List, [], ◌∷◌, ◌++◌, length, get_or, take, drop, vec_items, decimal, sym, ap, ◌∙◌, ap₂, append_assoc, arith}
-use Rattle.std.proofs.lemmas.List.{append-nil, map_push, take_more, nil_from_length}
+use Rattle.std.proofs.Common.{◌≡◌, ℕ, ◌+◌, ◌<◌, List, [], ◌∷◌, ◌++◌, length, get_or, take, vec_items, decimal, sym, ap, ◌∙◌, ap₂, append_assoc, arith}
+use Rattle.std.proofs.lemmas.List.{append-nil, map_push, take_more}
 use Rattle.std.proofs.lemmas.Bool.{eq-eqb, ne_eqb}
 use Rattle.provenance.specs.Polynomial.{Monomial}
 use Rattle.polynomial.specs.declared.Way.{Way}
 use Rattle.polynomial.specs.Ways.{monomial, monomials}
-use Rattle.ways.specs.Text.{dash, letter_x, plus_sign, colon, blank, led, parted, count_text, marks_text, way_text, ways_text, line_text}
-
-led_push : (b ns : List ℕ) (n : ℕ) → led b (ns ++ n ∷ []) ≡ led b ns ++ (b ++ decimal n)
-unfolding led
-led_push b [] n = append-nil (b ++ decimal n)
-led_push b (x ∷ ns) n = ap (λ (z : List ℕ). b ++ decimal x ++ z) (led_push b ns n) ∙ sym (append_assoc (b ++ decimal x) (led b ns) (b ++ decimal n))
-
-pub led_none : (t b ns : List ℕ) → t ≡ t ++ led b (take 0 ns)
-unfolding led
-led_none t b ns = sym (append-nil t)
-
-pub led_more : (t u v b ns : List ℕ) (i : ℕ) → i < length ns → u ≡ t ++ led b (take i ns) → v ≡ u ++ (b ++ decimal (get_or ns i 0)) →
-    v ≡ t ++ led b (take (i + 1) ns)
-led_more t u v b ns i h e f =
-    f ∙ ap (λ (z : List ℕ). z ++ (b ++ decimal (get_or ns i 0))) e ∙ append_assoc t (led b (take i ns)) (b ++ decimal (get_or ns i 0))
-    ∙ ap (λ (z : List ℕ). t ++ z) (sym (led_push b (take i ns) (get_or ns i 0)) ∙ ap (led b) (sym (take_more ns i 0 h)))
-
-pub parted_none : (t b ns : List ℕ) → length ns ≡ 0 → t ≡ t ++ parted b ns
-unfolding parted
-parted_none t b ns e = sym (ap (λ (z : List ℕ). t ++ parted b z) (nil_from_length ns e) ∙ append-nil t)
-
-pub parted_some : (t u v b ns rs : List ℕ) → 0 < length ns → rs ≡ drop 1 ns → u ≡ t ++ decimal (get_or ns 0 0) → v ≡ u ++ led b rs → v ≡ t ++ parted b ns
-unfolding parted
-parted_some t u v b [] rs h r e f = absurd (omega arith)
-parted_some t u v b (n ∷ ns) rs h r e f =
-    f ∙ ap (λ (z : List ℕ). u ++ led b z) r ∙ ap (λ (z : List ℕ). z ++ led b ns) e ∙ append_assoc t (decimal n) (led b ns)
+use Rattle.codec.specs.Output.{parted}
+use Rattle.ways.specs.Text.{dash, letter_x, plus_sign, colon, blank, count_text, marks_text, way_text, ways_text, line_text}
 
 pub count_one : (t : List ℕ) (n : ℕ) → n ≡ 1 → t ≡ t ++ count_text n
 unfolding count_text

@@ -2,6 +2,7 @@
 use Rattle.std.specs.Prelude.{ℕ, List, [], ◌∷◌, ◌++◌, decimal, ◌==◌}
 use Rattle.tables.specs.Bool.{pick}
 use Rattle.provenance.specs.Polynomial.{Monomial}
+use Rattle.codec.specs.Output.{parted}
 
 -- the bytes that are used: + - : x and the blank
 abbrev pub plus_sign : List ℕ
@@ -18,16 +19,6 @@ letter_x = 120 ∷ []
 
 abbrev pub blank : List ℕ
 blank = 32 ∷ []
-
--- each number in decimal, with the bytes b before it
-unfoldable pub led : List ℕ → List ℕ → List ℕ
-led b [] = []
-led b (n ∷ ns) = b ++ decimal n ++ led b ns
-
--- numbers in decimal, with the bytes b between them
-unfoldable pub parted : List ℕ → List ℕ → List ℕ
-parted b [] = []
-parted b (n ∷ ns) = decimal n ++ led b ns
 
 -- marks with a plus between them; a way that uses no mark is a dash
 unfoldable pub marks_text : List ℕ → List ℕ

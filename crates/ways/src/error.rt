@@ -1,15 +1,17 @@
 //! Why no ways are given.
 ghost use Rattle.std.specs.Prelude.{◌≡◌};
 ghost use Rattle.ways.specs.declared.error.WaysError.TheVariants.{Node};
+ghost use Rattle.ways.specs.Refusals.{refusal_of};
 
 use circuit::BadNode;
+use codec::Refused;
 use thiserror::Error;
 
 /// Why no ways are given.
 #[derive(Clone, Copy, PartialEq, Eq, Debug, Error)]
 pub enum WaysError {
     /// There was no memory. This has no number.
-    #[error("no memory is left")]
+    #[error("no memory")]
     Memory,
     /// Refusal 7, at this place: the first node of the store that cannot be read; or else the node asked for, which the store
     /// does not have.
@@ -25,5 +27,21 @@ impl From<BadNode> for WaysError {
 
     fn from(bad: BadNode) -> WaysError {
         WaysError::Node(bad.place)
+    }
+}
+
+impl WaysError {
+    /// The refusal, told by its number and its place; want of memory is none.
+    pub fn refusal(self) -> Option<Refused>
+        ensures { result ≡ refusal_of self }
+    {
+        match self {
+            WaysError::Memory => None,
+            WaysError::Node(place) => Some(Refused { number: 7, place }),
+            WaysError::Room(room) => Some(Refused {
+                number: 10,
+                place: room.saturating_add(1) as u64,
+            }),
+        }
     }
 }

@@ -2,33 +2,11 @@
 // Pushed to the line's String, and no Display of a way, which would be no plainer: how numbers are parted is shared with the rows.
 ghost use Rattle.std.specs.Prelude.{◌≡◌, ◌++◌, IfOk, string_bytes, OnOk};
 ghost use Rattle.polynomial.specs.Ways.{monomials};
-ghost use Rattle.ways.specs.Text.{led, parted, count_text, marks_text, ways_text, line_text};
+ghost use Rattle.ways.specs.Text.{count_text, marks_text, ways_text, line_text};
 
+use codec::push_parted;
 use polynomial::Way;
 use std::alloc::{AllocError, Global};
-
-/// Writes each number with `before` before it.
-fn write_led(text: &mut String, before: &str, numbers: &[u64]) -> Result<(), AllocError>
-    ensures { OnOk result (string_bytes text.new ≡
-        string_bytes text.old ++ led before.now numbers.now) }
-{
-    for number in numbers {
-        write!(text, "{before}{number}")?;
-    }
-    Ok(())
-}
-
-/// Writes numbers with `between` between them.
-fn write_parted(text: &mut String, between: &str, numbers: &[u64]) -> Result<(), AllocError>
-    ensures { OnOk result (string_bytes text.new ≡
-        string_bytes text.old ++ parted between.now numbers.now) }
-{
-    let [first, rest @ ..] = numbers else {
-        return Ok(());
-    };
-    write!(text, "{first}")?;
-    write_led(text, between, rest)
-}
 
 /// Writes the count of a way and an x, unless it occurs once.
 fn write_count(text: &mut String, count: u64) -> Result<(), AllocError>
@@ -47,7 +25,7 @@ fn write_marks(text: &mut String, marks: &[u64]) -> Result<(), AllocError>
     if marks.is_empty() {
         return write!(text, "-");
     }
-    write_parted(text, "+", marks)
+    push_parted(text, "+", marks)
 }
 
 /// Writes each way with a blank before it.
@@ -68,7 +46,7 @@ fn write_line(text: &mut String, row: &[u64], ways: &[Way]) -> Result<(), AllocE
     ensures { OnOk result (string_bytes text.new ≡
         string_bytes text.old ++ line_text row.now (monomials ways.now)) }
 {
-    write_parted(text, " ", row)?;
+    push_parted(text, " ", row)?;
     write!(text, ":")?;
     write_ways(text, ways)
 }

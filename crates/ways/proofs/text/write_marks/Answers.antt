@@ -12,4 +12,4 @@ returns-then-is_empty c =
 pub returns : goal.returns
 returns c =
     let h : 0 < length c.args.marks.now = grind (arith, nat_tests) in
-    IfOk-weaker c.write_parted.result _ _ (λ _ e. marks_some _ _ c.args.marks.now h e) c.write_parted.ensures
+    IfOk-weaker c.push_parted.result _ _ (λ _ e. marks_some _ _ c.args.marks.now h e) c.push_parted.ensures
