@@ -2,7 +2,9 @@
 ghost use Rattle.std.specs.Prelude.{◌+◌, ◌*◌, ◌≤◌, length};
 ghost use Rattle.circuit.specs.Lent.{SameMemory};
 ghost use Rattle.gather.specs.Gathered.{region_rows, Ready, Written};
+ghost use Rattle.gather.specs.Batches.{CanGather, Gathers};
 
+use crate::batch::Batch;
 use crate::merging::merge;
 use crate::region::{Entry, load};
 use circuit::Circuit;
@@ -19,64 +21,50 @@ const NONE: Entry<'static> = Entry {
     node: 0,
 };
 
-/// Gathers the rows of a region by way of `entries`, of which there are enough.
+/// Gathers rows by way of `entries`, of which there are enough.
 fn gather_by<'a>(
-    work: &'a [u64],
-    rows: Region,
+    batch: Batch<'a>,
     entries: &mut [Entry<'a>],
     circuit: &mut Circuit<'_>,
     out: &mut [u64],
 ) -> usize
-    requires enough { (rows.count ≤ length entries.old) × (rows.count ≤ 8192) }
-    requires within { (rows.width ≤ 8) × (9 * (rows.first + rows.count) ≤ length work.now) }
-    requires ready { Ready (region_rows work.now rows) rows.width circuit.old.nodes.now out.old }
-    ensures written { Written (region_rows work.now rows) rows.width circuit.old.nodes.now circuit.new.nodes.now
-        circuit.old.hints.now circuit.new.hints.now out.old out.new result }
-    ensures memory { SameMemory circuit.old circuit.new }
+    requires enough { batch.rows.count ≤ length entries.old }
+    requires ready { CanGather batch circuit.old out.old }
+    ensures { Gathers batch.entry circuit.old circuit.new out.old out.new result }
 {
-    let entries = &mut entries[0..rows.count];
-    load(work, rows, entries);
+    let entries = &mut entries[0..batch.rows.count];
+    load(batch, entries);
     entries.sort_unstable_by_key(|entry| entry.cells);
-    let count = merge(entries, rows.width, circuit, out);
+    let count = merge(entries, batch.rows.width, circuit, out);
     out[0] = count as u64;
     count
 }
 
 /// Gathers at most 64 rows.
-// Three functions, and none by a const parameter: an array of references gets no proof there, and sorting places was 1.8 times slower.
-fn gather_few(work: &[u64], rows: Region, circuit: &mut Circuit<'_>, out: &mut [u64]) -> usize
-    requires few { rows.count ≤ 64 }
-    requires within { (rows.width ≤ 8) × (9 * (rows.first + rows.count) ≤ length work.now) }
-    requires ready { Ready (region_rows work.now rows) rows.width circuit.old.nodes.now out.old }
-    ensures written { Written (region_rows work.now rows) rows.width circuit.old.nodes.now circuit.new.nodes.now
-        circuit.old.hints.now circuit.new.hints.now out.old out.new result }
-    ensures memory { SameMemory circuit.old circuit.new }
+// Three functions, and none by a const parameter: an array of references whose length is one gets no proof.
+fn gather_few(batch: Batch<'_>, circuit: &mut Circuit<'_>, out: &mut [u64]) -> usize
+    requires few { batch.rows.count ≤ 64 }
+    requires ready { CanGather batch circuit.old out.old }
+    ensures { Gathers batch.entry circuit.old circuit.new out.old out.new result }
 {
-    gather_by(work, rows, &mut [NONE; FEW], circuit, out)
+    gather_by(batch, &mut [NONE; FEW], circuit, out)
 }
 
 /// Gathers at most 1,024 rows.
-fn gather_some(work: &[u64], rows: Region, circuit: &mut Circuit<'_>, out: &mut [u64]) -> usize
-    requires few { rows.count ≤ 1024 }
-    requires within { (rows.width ≤ 8) × (9 * (rows.first + rows.count) ≤ length work.now) }
-    requires ready { Ready (region_rows work.now rows) rows.width circuit.old.nodes.now out.old }
-    ensures written { Written (region_rows work.now rows) rows.width circuit.old.nodes.now circuit.new.nodes.now
-        circuit.old.hints.now circuit.new.hints.now out.old out.new result }
-    ensures memory { SameMemory circuit.old circuit.new }
+fn gather_some(batch: Batch<'_>, circuit: &mut Circuit<'_>, out: &mut [u64]) -> usize
+    requires few { batch.rows.count ≤ 1024 }
+    requires ready { CanGather batch circuit.old out.old }
+    ensures { Gathers batch.entry circuit.old circuit.new out.old out.new result }
 {
-    gather_by(work, rows, &mut [NONE; SOME], circuit, out)
+    gather_by(batch, &mut [NONE; SOME], circuit, out)
 }
 
 /// Gathers at most 8,192 rows.
-fn gather_many(work: &[u64], rows: Region, circuit: &mut Circuit<'_>, out: &mut [u64]) -> usize
-    requires few { rows.count ≤ 8192 }
-    requires within { (rows.width ≤ 8) × (9 * (rows.first + rows.count) ≤ length work.now) }
-    requires ready { Ready (region_rows work.now rows) rows.width circuit.old.nodes.now out.old }
-    ensures written { Written (region_rows work.now rows) rows.width circuit.old.nodes.now circuit.new.nodes.now
-        circuit.old.hints.now circuit.new.hints.now out.old out.new result }
-    ensures memory { SameMemory circuit.old circuit.new }
+fn gather_many(batch: Batch<'_>, circuit: &mut Circuit<'_>, out: &mut [u64]) -> usize
+    requires { CanGather batch circuit.old out.old }
+    ensures { Gathers batch.entry circuit.old circuit.new out.old out.new result }
 {
-    gather_by(work, rows, &mut [NONE; MANY], circuit, out)
+    gather_by(batch, &mut [NONE; MANY], circuit, out)
 }
 
 /// Gathers the rows of a region into an answer, and says how many rows that has: it writes their number and then each row, its
@@ -89,11 +77,12 @@ pub fn gather(work: &[u64], rows: Region, circuit: &mut Circuit<'_>, out: &mut [
         circuit.old.hints.now circuit.new.hints.now out.old out.new result }
     ensures memory { SameMemory circuit.old circuit.new }
 {
+    let batch = Batch { work, rows };
     if rows.count <= FEW {
-        gather_few(work, rows, circuit, out)
+        gather_few(batch, circuit, out)
     } else if rows.count <= SOME {
-        gather_some(work, rows, circuit, out)
+        gather_some(batch, circuit, out)
     } else {
-        gather_many(work, rows, circuit, out)
+        gather_many(batch, circuit, out)
     }
 }

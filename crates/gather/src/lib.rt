@@ -1,6 +1,7 @@
 //! Gathering the rows that a query gives into its answer.
 #![tactic(auto)]
 
+mod batch;
 mod gathering;
 mod merging;
 mod region;

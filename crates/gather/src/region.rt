@@ -1,8 +1,9 @@
 //! The rows of a query in a work row: nine numbers each, a node and up to eight cells.
-ghost use Rattle.std.specs.Prelude.{◌≡◌, ◌+◌, ◌*◌, ◌≤◌, map, length};
+ghost use Rattle.std.specs.Prelude.{◌≡◌, map, length};
 ghost use Rattle.gather.specs.Gathered.{answer_of, region_rows};
 
-use rows::{Region, SPAN};
+use crate::batch::Batch;
+use rows::SPAN;
 
 /// A row of a work row: its cells that count, and its node.
 #[derive(Clone, Copy)]
@@ -11,16 +12,15 @@ pub struct Entry<'a> {
     pub node: u64,
 }
 
-/// Makes `entries` the rows of a region.
-pub fn load<'a>(work: &'a [u64], rows: Region, entries: &mut [Entry<'a>])
-    requires within { (rows.width ≤ 8) × (9 * (rows.first + rows.count) ≤ length work.now) }
-    requires long { length entries.old ≡ rows.count }
-    ensures { map answer_of entries.new ≡ region_rows work.now rows }
+/// Makes `entries` the rows of a batch.
+pub fn load<'a>(batch: Batch<'a>, entries: &mut [Entry<'a>])
+    requires { length entries.old ≡ batch.rows.count }
+    ensures { map answer_of entries.new ≡ region_rows batch.entry.work.now batch.entry.rows }
 {
     // By place, and no `iter_mut`: once such a walk is zipped with another, the prover knows nothing of what it wrote.
-    for (i, row) in rows.part(work).chunks_exact(SPAN).enumerate() {
+    for (i, row) in batch.rows.part(batch.work).chunks_exact(SPAN).enumerate() {
         entries[i] = Entry {
-            cells: &row[1..1 + rows.width],
+            cells: &row[1..1 + batch.rows.width],
             node: row[0],
         };
     }

@@ -24,14 +24,16 @@ rows_same rows es sorted e s f =
 pub merge-count-requires : goal.merge-count-requires
 merge-count-requires c =
     let same = rows_same _ _ _ c.load.ensures c.sort_unstable_by_key.ensures.permutation in
-    let first : ℕ = 9 * c.args.rows.first in
-    let left : length (drop first c.args.work.now) ≡ length c.args.work.now - first = length-drop first c.args.work.now in
+    let first : ℕ = 9 * c.args.batch.rows.first in
+    let left : length (drop first c.args.batch.work.now) ≡ length c.args.batch.work.now - first = length-drop first c.args.batch.work.now in
     record {
       order = in_order c.sort_unstable_by_key.new.self _ refl (c.sort_unstable_by_key.ensures.sorted (λ (e : Entry). e.cells) (answers_always _ _ _ (λ f a r g h. search rules)));
-      wide = wide_same _ _ same _ (wide_apart 9 c.args.rows.width c.args.rows.count (drop first c.args.work.now) (omega arith) (omega arith));
+      wide = wide_same _ _ same _ (wide_apart 9 c.args.batch.rows.width c.args.batch.rows.count (drop first c.args.batch.work.now) (omega arith) (omega arith));
       ready = ready_same _ _ same _ _ _ c.requires.ready;
     }
 
-pub returns-clause-written : goal.returns-clause-written
-returns-clause-written c =
-    written _ _ (rows_same _ _ _ c.load.ensures c.sort_unstable_by_key.ensures.permutation) _ _ _ _ _ _ _ _ (omega arith) c.merge-count.ensures.merged
+pub returns : goal.returns
+returns c = record {
+  written = written _ _ (rows_same _ _ _ c.load.ensures c.sort_unstable_by_key.ensures.permutation) _ _ _ _ _ _ _ _ (omega arith) c.merge-count.ensures.merged;
+  memory = c.merge-count.ensures.memory;
+}

@@ -7,6 +7,6 @@ use Rattle.gather.proofs.region.load.Given as goal
 
 abbrev pub invariant-loop-i : goal.invariant-loop-i
 invariant-loop-i l =
-    Walked l.work l.fn.rows (enumerate_count l.i-iterator) (chunks_exact_rest (enumerate_source l.i-iterator))
+    Walked l.fn.batch.work.now l.fn.batch.rows (enumerate_count l.i-iterator) (chunks_exact_rest (enumerate_source l.i-iterator))
     × (chunks_exact_size (enumerate_source l.i-iterator) ≡ 9)
-    × (map answer_of (take (enumerate_count l.i-iterator) l.entries) ≡ rows_apart 9 l.fn.rows.width (enumerate_count l.i-iterator) (drop (9 * l.fn.rows.first) l.work))
+    × (map answer_of (take (enumerate_count l.i-iterator) l.entries) ≡ rows_apart 9 l.fn.batch.rows.width (enumerate_count l.i-iterator) (drop (9 * l.fn.batch.rows.first) l.fn.batch.work.now))
