@@ -4,7 +4,7 @@
 
 use anyhow::anyhow;
 use codec::{InputError, Refused, query_in, tables_in};
-use eval::{Reply, ask};
+use eval::ask;
 use query::parse;
 use std::alloc::{AllocError, Global};
 use std::io::Read;
@@ -31,7 +31,7 @@ fn row_line(heap: Global, nodes: &[u64], row: &[u64]) -> anyhow::Result<String> 
         return Err(anyhow!("a row without a node"));
     };
     match ways(heap, nodes, *node, ROOM) {
-        Ok(found) => Ok(line(heap, cells, found.as_slice())?),
+        Ok(found) => Ok(line(heap, cells, &found)?),
         Err(WaysError::Node(place)) => Ok(Refused { number: 7, place }.to_string(heap)?),
         Err(WaysError::Room(room)) => {
             let place = room.saturating_add(1) as u64;
@@ -67,17 +67,17 @@ fn answer(
     let mut nodes = [0; NODES];
     let mut out = [0; OUT];
     match ask(tables, signs, &mut work, &mut nodes, &mut out) {
-        Reply::Refused(refusal) => {
+        Err(refusal) => {
             rt.println(Refused {
                 number: refusal.number(),
                 place: refusal.place() as u64,
             })?;
         }
-        Reply::Done(_) => {
+        Ok(_) => {
             let width = parse(tables, signs).unwrap_or(0);
             let answer = kept(heap, width, &nodes, &out)?;
             for row in answer.rows() {
-                rt.println(row_line(heap, answer.nodes.as_slice(), row)?)?;
+                rt.println(row_line(heap, &answer.nodes, row)?)?;
             }
             answers.push(answer)?;
         }
@@ -97,7 +97,7 @@ fn run(rt: &HostRuntime, answers: &mut Vec<Answer>) -> anyhow::Result<()> {
     let heap = rt.alloc();
     let mut input = Vec::new(heap);
     rt.stdin().read_to_end(&mut input)?;
-    let tables = match tables_in(heap, input.as_slice()) {
+    let tables = match tables_in(heap, &input) {
         Ok(tables) => tables,
         Err(error) => return print_refusal(rt, error),
     };
@@ -107,12 +107,7 @@ fn run(rt: &HostRuntime, answers: &mut Vec<Answer>) -> anyhow::Result<()> {
             Ok(query) => query,
             Err(error) => return print_refusal(rt, error),
         };
-        answer(
-            rt,
-            tables.numbers.as_slice(),
-            query.numbers.as_slice(),
-            answers,
-        )?;
+        answer(rt, &tables.numbers, &query.numbers, answers)?;
         rest = query.rest;
         if rest.is_empty() {
             return Ok(());
@@ -127,8 +122,8 @@ fn run_and_store(rt: &HostRuntime) -> anyhow::Result<()> {
     let mut answers = Vec::new(heap);
     run(rt, &mut answers)?;
     for file in env::args(rt)?.skip(1).take(1) {
-        let bytes = encode(heap, answers.as_slice())?;
-        fs::write(rt, file.as_str(), bytes.as_slice())?;
+        let bytes = encode(heap, &answers)?;
+        fs::write(rt, file.as_str(), &bytes)?;
     }
     Ok(())
 }

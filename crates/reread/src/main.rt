@@ -31,20 +31,19 @@ fn asked(heap: Global, answer: &Answer) -> Result<Vec<u64>, AllocError> {
 
 /// What a rule reads for each row of an answer.
 fn worths(heap: Global, command: &Command, answer: &Answer) -> Result<Vec<Option<u64>>, ReadError> {
-    let asked = asked(heap, answer)?;
-    let asked = asked.as_slice();
-    let nodes = answer.nodes.as_slice();
-    let values = command.values.as_slice();
+    let asked = &asked(heap, answer)?;
+    let nodes = &answer.nodes;
+    let values = &command.values;
     let numbers = match command.rule {
         Rule::Count => read_counts(heap, nodes, asked, values)?,
         Rule::Level(top) => read_levels(heap, top, nodes, asked, values)?,
         Rule::Sets => read_sets(heap, nodes, asked, values)?,
         Rule::Price => {
             let values = prices(heap, values)?;
-            return read_prices(heap, nodes, asked, values.as_slice());
+            return read_prices(heap, nodes, asked, &values);
         }
     };
-    Ok(prices(heap, numbers.as_slice())?)
+    Ok(prices(heap, &numbers)?)
 }
 
 /// Prints a line for each row of an answer, or the refusal.
@@ -58,7 +57,7 @@ fn print_answer(rt: &HostRuntime, command: &Command, answer: &Answer) -> anyhow:
             return Ok(());
         }
     };
-    for (row, worth) in answer.rows().zip(worths.as_slice()) {
+    for (row, worth) in answer.rows().zip(&worths) {
         let cells = row.get(1..).unwrap_or(&[]);
         rt.println(line(heap, cells, *worth)?)?;
     }
@@ -69,7 +68,7 @@ fn print_answer(rt: &HostRuntime, command: &Command, answer: &Answer) -> anyhow:
 fn run(rt: &HostRuntime) -> anyhow::Result<()> {
     let heap = rt.alloc();
     let words = words(rt)?;
-    let command = match read_command(heap, words.as_slice()) {
+    let command = match read_command(heap, &words) {
         Ok(command) => command,
         Err(error) => {
             rt.eprintln(USAGE)?;
@@ -78,8 +77,8 @@ fn run(rt: &HostRuntime) -> anyhow::Result<()> {
     };
     let mut bytes = Vec::new(heap);
     rt.stdin().read_to_end(&mut bytes)?;
-    let answers = decode(heap, bytes.as_slice())?;
-    for (i, answer) in answers.as_slice().iter().enumerate() {
+    let answers = decode(heap, &bytes)?;
+    for (i, answer) in answers.iter().enumerate() {
         if i > 0 {
             rt.println("")?;
         }

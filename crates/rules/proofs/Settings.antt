@@ -3,7 +3,7 @@ use Rattle.std.proofs.Common.{◌≡◌, ℕ, ◌<◌, Bool, true, false, List, 
 use Rattle.std.specs.Option.{ok_or}
 use Rattle.rules.specs.declared.error.ArgumentError.{ArgumentError}
 use Rattle.rules.specs.declared.error.ArgumentError.TheVariants.{NoMemory, UnknownRule, NoTop, NoSetting, NoNumber, NoMark}
-use Rattle.rules.specs.declared.setting.Setting.TheVariants.{Mark, Others}
+use Rattle.rules.specs.declared.setting.Setting.TheVariants.{Mark}
 use Rattle.rules.specs.Words.{NumberRead, MarkRead, Split, SettingRead}
 
 -- a test that fails
@@ -37,9 +37,6 @@ module _ (bs name what : List ℕ) (p : (bs ≡ name ++ (61 ∷ what)) × ((i : 
   mark_wrong NoSetting n h = absurd h
   mark_wrong NoNumber n h = record { name = name; what = what; split = split_of; why = inr (n, h) }
   mark_wrong NoMark n h = record { name = name; what = what; split = split_of; why = (n, h) }
-
-  pub others_given : (v : ℕ) → name ≡ codes "else" → NumberRead what (Ok v) → SettingRead bs (Ok (Others v))
-  others_given v e h = record { name = name; what = what; split = split_of; why = (e, h) }
 
   pub mark_given : (k v : ℕ) → (name ≡ codes "else" → ⊥) → MarkRead name (Ok k) → NumberRead what (Ok v) → SettingRead bs (Ok (Mark k v))
   mark_given k v n m h = record { name = name; what = what; split = split_of; why = (n, m, h) }

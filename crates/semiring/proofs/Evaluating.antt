@@ -42,10 +42,6 @@ module _ {V : Type 0} (a : Algebra V) (vs : List V) (m : List ℕ) (bs : List Bo
               (cases_eq i p);
         }
 
-    -- a node that is not chosen
-    pub evaluated_skip : get_or bs p false ≡ false → (x : V) (after : List V) → after ≡ ds ++ x ∷ [] → Evaluated a vs m bs (p + 1) after
-    evaluated_skip off x after q = subst (Evaluated a vs m bs (p + 1)) (sym q) (pushed x (λ on. absurd (grind arith)))
-
     -- a node n that is chosen; zs are the values at hand
     module _ (c : Chosen m bs) (within : p < length bs) (here : get_or bs p false ≡ true) (zs : List V) (n : Node) (e : zs ≡ ds)
         (f : n ≡ get_or (nodes_in m) p Never) where

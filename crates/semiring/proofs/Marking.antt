@@ -1,7 +1,7 @@
 -- Marking the nodes that are needed: those asked for, and then what they name, from the last node back to the first. Assumes nothing.
-use Rattle.std.proofs.Common.{◌≡◌, ℕ, ◌+◌, ◌-◌, ◌<◌, ◌≤◌, Bool, true, false, ◌⊎◌, List, length, get_or, set, replicate, sym, refl, ap, ◌∙◌, subst, inl, inr, ⊎_elim, arith}
-use Rattle.std.proofs.lemmas.Bool.{cases_eq, cases_lt}
-use Rattle.std.proofs.lemmas.List.{get_or_past, get_or-set_same, get_or-set_other, length-set, length-replicate, get_or-replicate}
+use Rattle.std.proofs.Common.{◌≡◌, ℕ, ◌+◌, ◌-◌, ◌<◌, ◌≤◌, Bool, true, false, ◌⊎◌, List, length, get_or, set, sym, refl, ap, ◌∙◌, subst, inl, inr, ⊎_elim, arith}
+use Rattle.std.proofs.lemmas.Bool.{cases_eq}
+use Rattle.std.proofs.lemmas.List.{get_or-set_same, get_or-set_other, length-set}
 use Rattle.circuit.specs.declared.Node.{Node}
 use Rattle.circuit.specs.declared.Node.TheVariants.{Never, Or, Both}
 use Rattle.circuit.specs.Store.{nodes_in}
@@ -15,9 +15,6 @@ set_true bs i k e = ⊎_elim (λ p. inl p) (λ np. inr (sym (get_or-set_other bs
 
 set_keeps : (bs : List Bool) (i k : ℕ) → i < length bs → get_or bs k false ≡ true → get_or (set bs i true) k false ≡ true
 set_keeps bs i k h e = ⊎_elim (λ p. rw p (get_or-set_same bs i true false h)) (λ np. get_or-set_other bs i k true false np ∙ e) (cases_eq k i)
-
-unmarked : (n k : ℕ) → get_or (replicate n false) k false ≡ false
-unmarked n k = ⊎_elim (λ h. get_or-replicate n k false false h) (λ h. get_or_past (replicate n false) k false (simp length-replicate h)) (cases_lt k n)
 
 -- the nodes asked for are marked, the first j of them
 pub record Asked (n : ℕ) (ns : List Node) (asked : List ℕ) (j : ℕ) (bs : List Bool) : Type 0 where
@@ -33,13 +30,6 @@ pub record Marking (n : ℕ) (ns : List Node) (asked : List ℕ) (i : ℕ) (bs :
   pub closed : (j k : ℕ) → i ≤ j → get_or bs j false ≡ true → Names (get_or ns j Never) k → get_or bs k false ≡ true
 
 module _ (n : ℕ) (ns : List Node) (asked : List ℕ) where
-  pub asked_none : Asked n ns asked 0 (replicate n false)
-  asked_none = record {
-    long = length-replicate n false;
-    only = λ k e. absurd (let z = unmarked n k in grind arith);
-    up_to = λ t h. absurd (omega arith);
-  }
-
   pub asked_more : (j k : ℕ) (bs : List Bool) → j < length asked → k < n → get_or asked j 0 ≡ k →
       Asked n ns asked j bs → Asked n ns asked (j + 1) (set bs k true)
   asked_more j k bs within below e a =
@@ -52,16 +42,6 @@ module _ (n : ℕ) (ns : List Node) (asked : List ℕ) where
             (get_or-set_same bs k true false (omega arith)))
             (λ p. set_keeps bs k (get_or asked t 0) (omega arith) (a.up_to t (omega arith)))
             (cases_eq t j);
-      }
-
-  pub marking_none : (bs : List Bool) (j i : ℕ) → length asked ≤ j → n ≤ i → Asked n ns asked j bs → Marking n ns asked i bs
-  marking_none bs j i h l a =
-      let long = a.long in
-      record {
-        long = a.long;
-        only = a.only;
-        roots = λ t u. a.up_to t (omega arith);
-        closed = λ t k p e. absurd (let past = get_or_past bs t false (omega arith) in grind arith);
       }
 
   needed_marked : (bs : List Bool) (i : ℕ) → i ≤ 0 → Marking n ns asked i bs → (k : ℕ) → Needed ns asked k → get_or bs k false ≡ true

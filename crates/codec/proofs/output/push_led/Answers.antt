@@ -8,6 +8,3 @@ pub loop-number-preserved : goal.loop-number-preserved
 loop-number-preserved c =
     led_more _ _ _ c.args.before.now c.args.numbers.now c.loop-number.number-index c.loop-number-test.true c.loop-number.invariant
     c.in_ok-write.ensures.bytes
-
-pub returns : goal.returns
-returns c = led_all _ _ _ c.args.numbers.now c.loop-number.number-index c.loop-number-test.false c.loop-number.invariant

@@ -1,17 +1,11 @@
 use Rattle.std.proofs.Common.{◌≡◌, ◌-◌, true, false, get_or, refl, arith, rules}
 use Rattle.std.proofs.lemmas.List.{get_or_read}
-use Rattle.semiring.proofs.Marking.{asked_none, asked_more, marking_none, marking_more, marking_all, turn_below}
+use Rattle.semiring.proofs.Marking.{asked_more, marking_more, marking_all, turn_below}
 use Rattle.semiring.proofs.needed.needed_by.Goals as goal
-
-pub loop-node-init : goal.loop-node-init
-loop-node-init c = rw (c.in_ok-needed.ensures.items_if_clones_equal (λ y e. e), c.count.ensures) (asked_none _ _ _)
 
 pub loop-node-preserved : goal.loop-node-preserved
 loop-node-preserved c =
     asked_more _ _ _ c.loop-node.node-index _ _ c.loop-node-test.true (c.requires.there _ c.loop-node-test.true) refl c.loop-node.invariant
-
-pub loop-place-init : goal.loop-place-init
-loop-place-init c = marking_none _ _ _ _ c.loop-node.node-index _ c.loop-node-test.false (omega arith) c.loop-node.invariant
 
 pub index_mut-requires-in-Or : goal.index_mut-requires-in-Or
 index_mut-requires-in-Or c =

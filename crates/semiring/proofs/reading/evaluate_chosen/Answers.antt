@@ -1,6 +1,6 @@
 use Rattle.std.proofs.Common.{rules}
 use Rattle.std.proofs.lemmas.Result.{err_from_is_err_and}
-use Rattle.semiring.proofs.Evaluating.{names_done, mark_valued, evaluated_skip, evaluated_more, first_large, large_told}
+use Rattle.semiring.proofs.Evaluating.{names_done, mark_valued, evaluated_more, first_large, large_told}
 use Rattle.semiring.proofs.reading.evaluate_chosen.Goals as goal
 
 pub evaluate-requires : goal.evaluate-requires
@@ -24,10 +24,4 @@ loop-place-preserved g c = record {
   room = search rules;
   so_far = evaluated_more _ _ _ _ _ _ c.loop-place.invariant.so_far c.requires.0 c.loop-place-test.true c.if-not-is_chosen.false _ _
       c.as_slice.ensures.value c.node-node.ensures _ (rw c.in_ok-value.ensures.ok_part at c.evaluate.ensures) _ (search rules);
-}
-
-pub loop-place-preserved-then-not-is_chosen : goal.loop-place-preserved-then-not-is_chosen
-loop-place-preserved-then-not-is_chosen g c = record {
-  room = search rules;
-  so_far = evaluated_skip _ _ _ _ _ _ c.loop-place.invariant.so_far c.if-not-is_chosen.true _ _ c.push_reserved.ensures.items;
 }

@@ -1,9 +1,9 @@
-use Rattle.std.proofs.Common.{Some, None, refl, arith}
+use Rattle.std.proofs.Common.{Some, None, arith}
 use Rattle.std.proofs.lemmas.Bool.Decides.{Decides-eqb}
 use Rattle.std.proofs.lemmas.Slice.Eq.{slice_eq-Decides}
 use Rattle.std.proofs.lemmas.Str.Pattern.{split_parts}
 use Rattle.std.proofs.lemmas.Result.{err_from_is_err_and}
-use Rattle.rules.proofs.Settings.{differs, none_given, value_wrong, mark_wrong, others_given, mark_given}
+use Rattle.rules.proofs.Settings.{differs, none_given, value_wrong, mark_wrong, mark_given}
 use Rattle.rules.proofs.setting.SettingFromStr.from_str.Goals as goal
 
 pub returns-in_err-name : goal.returns-in_err-name
@@ -26,12 +26,6 @@ returns-in_err-mark c =
     let some = rw c.in_ok-name.ensures.ok_part at c.split_once.ensures.cases in
     let s = split_parts 61 c.args.word.now (Some (c.in_ok-name.name, c.in_ok-name.value)) some (omega arith) in
     rw (p.1, p.2) (mark_wrong c.args.word.now _ _ s _ (differs (slice_eq-Decides Decides-eqb _ _ _ c.if-eq.ensures)) c.in_err-mark.ensures)
-
-pub returns-then-eq : goal.returns-then-eq
-returns-then-eq c =
-    let some = rw c.in_ok-name.ensures.ok_part at c.split_once.ensures.cases in
-    let s = split_parts 61 c.args.word.now (Some (c.in_ok-name.name, c.in_ok-name.value)) some (omega arith) in
-    others_given c.args.word.now _ _ s _ ((slice_eq-Decides Decides-eqb _ _ _ c.if-eq.ensures).0 refl) c.in_ok-value.ensures
 
 pub returns : goal.returns
 returns c =
