@@ -10,7 +10,7 @@ use std::alloc::{AllocError, Global};
 use std::io::Read;
 use std::{env, fs};
 use stored::{Answer, encode};
-use ways::{WaysError, line, ways};
+use ways::{line, ways};
 
 /// Memory for a query of weight 128: nine numbers a row, and three a node.
 const WORK: usize = 1152;
@@ -32,12 +32,7 @@ fn row_line(heap: Global, nodes: &[u64], row: &[u64]) -> anyhow::Result<String> 
     };
     match ways(heap, nodes, *node, ROOM) {
         Ok(found) => Ok(line(heap, cells, &found)?),
-        Err(WaysError::Node(place)) => Ok(Refused { number: 7, place }.to_string(heap)?),
-        Err(WaysError::Room(room)) => {
-            let place = room.saturating_add(1) as u64;
-            Ok(Refused { number: 10, place }.to_string(heap)?)
-        }
-        Err(WaysError::Memory) => Err(anyhow!("no memory")),
+        Err(error) => Ok(error.refusal().ok_or(error)?.to_string(heap)?),
     }
 }
 
