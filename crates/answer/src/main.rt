@@ -116,7 +116,7 @@ fn run_and_store(rt: &HostRuntime) -> anyhow::Result<()> {
     let heap = rt.alloc();
     let mut answers = Vec::new(heap);
     run(rt, &mut answers)?;
-    for file in env::args(rt)?.skip(1).take(1) {
+    if let Some(file) = env::args(rt)?.nth(1) {
         let bytes = encode(heap, &answers)?;
         fs::write(rt, file.as_str(), &bytes)?;
     }

@@ -6,6 +6,7 @@ use std::alloc::AllocError;
 use std::fmt;
 
 /// A refusal: its number and its place, printed as in `refused 2 at 0`.
+// A number, and no enum: it is the printed form. What is refused is an enum in each crate that refuses.
 #[derive(Clone, Copy, PartialEq, Eq, Debug)]
 pub struct Refused {
     pub number: u64,

@@ -1,4 +1,5 @@
 //! The line of a row.
+// Pushed to the line's String, and no Display of a row, which would be no plainer: how numbers are parted is shared with the ways.
 ghost use Rattle.std.specs.Prelude.{◌≡◌, ◌++◌, IfOk, string_bytes, OnOk};
 ghost use Rattle.rules.specs.Lines.{worth_text, line_text};
 

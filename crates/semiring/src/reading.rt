@@ -51,6 +51,7 @@ fn evaluate<S: Semiring>(
     requires { (NamesEarlier (length done.now) node) × (Valued (length values.now) node) }
     ensures { TriesNode (S.algebra semiring.now) values.now done.now node result }
 {
+    // By places: that is how a store names its nodes.
     match node {
         Node::Never => Some(semiring.zero()),
         Node::Always => Some(semiring.one()),

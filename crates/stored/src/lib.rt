@@ -14,6 +14,7 @@ pub use encoding::encode;
 pub use error::FileError;
 pub use round_trip::reads_back;
 
+// Flat numbers, with a count in front: that is the layout of the stored form.
 /// The stored answer to a query: the width of its rows, and its nodes and its rows as memory holds them.
 #[derive(Drop)]
 pub struct Answer {

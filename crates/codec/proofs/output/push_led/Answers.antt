@@ -1,4 +1,4 @@
-use Rattle.codec.proofs.Texts.{led_none, led_more, led_all}
+use Rattle.codec.proofs.Texts.{led_none, led_more}
 use Rattle.codec.proofs.output.push_led.Goals as goal
 
 pub loop-number-init : goal.loop-number-init
