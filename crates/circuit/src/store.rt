@@ -5,7 +5,7 @@ ghost use Rattle.circuit.specs.Held.{Sound};
 #[derive(Clone, Copy)]
 pub struct Store<'a> {
     pub nodes: &'a [u64],
-    ghost sound: { Sound nodes.now },
+    pub ghost sound: { Sound nodes.now },
 }
 
 /// The first place of a store at which no node can be read; 0 where the memory is empty.

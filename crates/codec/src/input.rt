@@ -47,6 +47,7 @@ impl InputError {
     }
 }
 
+// By hand: a derived `From` does not say which error it makes, and clauses name it.
 impl From<AllocError> for InputError {
     ghost from_gives = { λ _ r. r ≡ NoMemory };
 

@@ -34,7 +34,7 @@ fn push_led(text: &mut String, before: &str, numbers: &[u64]) -> Result<(), Allo
     Ok(())
 }
 
-/// Appends numbers with `between` between them.
+/// Appends numbers with `between` between them; where memory runs out, maybe only some of them.
 pub fn push_parted(text: &mut String, between: &str, numbers: &[u64]) -> Result<(), AllocError>
     ensures { OnOk result (string_bytes text.new ≡
         string_bytes text.old ++ parted between.now numbers.now) }

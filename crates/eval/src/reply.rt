@@ -22,6 +22,7 @@ pub enum Refusal {
     Out(usize),
 }
 
+// By hand: a derived `From` does not say which error it makes, and clauses name it.
 impl From<Misfit> for Refusal {
     ghost from_gives = { λ e r. r ≡ Tables e.table };
 

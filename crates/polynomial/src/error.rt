@@ -16,6 +16,7 @@ pub enum PolynomialError {
     TooLarge,
 }
 
+// By hand: a derived `From` does not say which error it makes, and clauses name it.
 impl From<AllocError> for PolynomialError {
     ghost from_gives = { λ _ e. e ≡ Memory };
 

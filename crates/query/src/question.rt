@@ -9,5 +9,5 @@ pub struct Question<'a> {
     pub tables: Tables<'a>,
     pub signs: &'a [u64],
     pub width: usize,
-    ghost whole: { Whole tables.memory.now signs.now width },
+    pub ghost whole: { Whole tables.memory.now signs.now width },
 }

@@ -28,6 +28,7 @@ pub enum ArgumentError {
     NoMark,
 }
 
+// By hand: a derived `From` does not say which error it makes, and clauses name it.
 impl From<AllocError> for ArgumentError {
     ghost from_gives = { λ _ r. r ≡ NoMemory };
 

@@ -53,6 +53,6 @@ pub fn read_sets(
     ensures read { ReadTold set_algebra values.now nodes.now asked.now result }
     ensures means { IfOk result (λ xs. SetsMean values.now nodes.now asked.now xs.items) }
 {
-    // A function, and no member of the trait: its laws range over all numbers, and what sets mean holds of values below 2^64 alone.
+    // A function, and no member of the trait: a law there ranges over all numbers, and for sets the meaning holds below 2^64 alone.
     read(heap, &Sets, nodes, asked, values)
 }

@@ -39,6 +39,7 @@ impl ReadError {
     }
 }
 
+// By hand: a derived `From` does not say which error it makes, and clauses name it.
 impl From<AllocError> for ReadError {
     ghost from_gives = { λ _ r. r ≡ OutOfMemory };
 

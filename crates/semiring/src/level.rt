@@ -56,6 +56,6 @@ pub fn read_levels(
     ensures read { ReadTold (level_algebra top) values.now nodes.now asked.now result }
     ensures means { IfOk result (λ xs. LevelsMean top values.now nodes.now asked.now xs.items) }
 {
-    // A function, and no member of the trait: its laws range over all numbers, and what sets mean holds of values below 2^64 alone.
+    // A function, and no member of the trait: a law there ranges over all numbers, and for sets the meaning holds below 2^64 alone.
     read(heap, &Levels { top }, nodes, asked, values)
 }

@@ -111,11 +111,7 @@ fn a_price_that_is_too_large(rt: HostRuntime) -> Result<(), Fail> {
         "one more"
     );
     let least = read_prices(heap, &NODES, &[3], &dear)?;
-    assert_eq!(rt;
-        least.as_slice(),
-        [Some(1)].as_slice(),
-        "the cheaper one"
-    );
+    assert_eq!(rt; least.as_slice(), [Some(1)].as_slice(), "the cheaper one");
     let free = read_prices(heap, &NODES, &[4], &[Some(MAX), Some(0)])?;
     assert_eq!(rt;
         free.as_slice(),
@@ -123,10 +119,7 @@ fn a_price_that_is_too_large(rt: HostRuntime) -> Result<(), Fail> {
         "the largest price"
     );
     let gone = read_prices(heap, &NODES, &[3, 4], &[Some(MAX), None])?;
-    assert_eq!(rt;
-        gone.as_slice(),
-        [Some(MAX), None].as_slice()
-    );
+    assert_eq!(rt; gone.as_slice(), [Some(MAX), None].as_slice());
     Ok(())
 }
 

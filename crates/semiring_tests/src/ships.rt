@@ -62,12 +62,7 @@ fn prices(rt: HostRuntime) -> Result<(), Fail> {
     values[1025] = Some(9);
     values[1026] = Some(6);
     let prices = read_prices(rt.alloc(), &NODES, &ROWS, &values)?;
-    let expected = [
-        Some(6),
-        Some(7),
-        Some(11),
-        Some(8),
-    ];
+    let expected = [Some(6), Some(7), Some(11), Some(8)];
     assert_eq!(rt; prices.as_slice(), expected.as_slice());
     values[1026] = None;
     let fewer = read_prices(rt.alloc(), &NODES, &ROWS, &values)?;

@@ -31,6 +31,7 @@ pub enum FileError {
     LeftOver,
 }
 
+// By hand: a derived `From` does not say which error it makes, and clauses name it.
 impl From<AllocError> for FileError {
     ghost from_gives = { λ _ r. r ≡ NoMemory };
 

@@ -6,7 +6,7 @@ ghost use Rattle.tables.specs.Tables.{fit, fits};
 #[derive(Clone, Copy)]
 pub struct Tables<'a> {
     pub memory: &'a [u64],
-    ghost whole: { fit memory.now ≡ fits },
+    pub ghost whole: { fit memory.now ≡ fits },
 }
 
 /// The first table that does not fit: 0 also where there is none, and 8 for a ninth.

@@ -22,6 +22,7 @@ pub enum WaysError {
     Room(usize),
 }
 
+// By hand: a derived `From` does not say which error it makes, and clauses name it.
 impl From<BadNode> for WaysError {
     ghost from_gives = { λ bad e. e ≡ Node bad.place };
 
