@@ -5,6 +5,7 @@ use Rattle.std.proofs.lemmas.List.{length-drop, length-take-le}
 use Rattle.std.proofs.lemmas.Bool.Decides.{nat_tests}
 use Rattle.tables.specs.Bool.{pick}
 use Rattle.tables.specs.Tables.{Fit, fits, faulty, fit, fit_from, table_fits, table_size, rows_in, tables_from, widths_from, tables_in, widths_in}
+use Rattle.tables.proofs.Fits.{size_within}
 use Rattle.query.proofs.Steps.{differ}
 use Rattle.query.proofs.Shown.{Narrow, RowsWide}
 
@@ -20,9 +21,6 @@ fit_start m e =
 
 few_columns : (xs : List ℕ) → table_fits xs ≡ true → get_or xs 1 0 ≤ 4
 few_columns xs e = grind (arith, nat_tests)
-
-all_cells : (xs : List ℕ) → table_fits xs ≡ true → table_size xs ≤ length xs
-all_cells xs e = grind (arith, nat_tests)
 
 rows_in_wide : (n w : ℕ) (xs : List ℕ) → n * w ≤ length xs → AllByRecursion (λ r. length r ≡ w) (rows_in n w xs)
 unfolding rows_in
@@ -41,7 +39,7 @@ wide_from : (t n : ℕ) (xs : List ℕ) → fit_from t n xs ≡ fits → RowsWid
 unfolding fit_from widths_from tables_from
 wide_from t zero xs e i h = absurd (omega arith)
 wide_from t (suc n) xs e zero h =
-    rows_in_wide (get_or xs 0 0) (get_or xs 1 0) (drop 2 xs) (omega (arith, length-drop 2 xs, all_cells xs (pick_fits (table_fits xs) _ t e).0))
+    rows_in_wide (get_or xs 0 0) (get_or xs 1 0) (drop 2 xs) (omega (arith, length-drop 2 xs, size_within xs (pick_fits (table_fits xs) _ t e).0))
 wide_from t (suc n) xs e (suc i) h = wide_from (suc t) n (drop (table_size xs) xs) (pick_fits (table_fits xs) _ t e).1 i (omega arith)
 
 pub fit_narrow : (m : List ℕ) → fit m ≡ fits → Narrow (widths_in m)
