@@ -1,5 +1,6 @@
 -- Or and both of two nodes, where one of the two says all. Assumes nothing.
 use Rattle.std.proofs.Common.{◌≡◌, ℕ, ◌<◌, Bool, true, false, ◌⊎◌, List, Some, None, Option, sym, refl, ◌∙◌, subst, inl, inr, ⊎_elim, add-zero, one-mul, mul-zero, zero-add, zero-mul, mul-one, arith}
+use Rattle.std.proofs.lemmas.Option.{none-some}
 use Rattle.tables.specs.Bool.{pick}
 use Rattle.circuit.specs.declared.Node.{Node}
 use Rattle.circuit.specs.declared.Node.TheVariants.{Never, Always, Mark, Or, Both}
@@ -77,13 +78,10 @@ module _ (m hints : List ℕ) (simple : Option ℕ) (n : Node) (p : ℕ) (is : s
   }
 
 -- which of the tests led to the node that comes back
-none_some : {A : Type 0} (p : ℕ) → ◌≡◌ {A = Option ℕ} None (Some p) → A
-none_some p e = absurd (let z : ◌≡◌ {A = ℕ} 0 1 = cc in omega arith)
-
 or_test : (x y : Bool) (a b p : ℕ) → pick x (Some b) (pick y (Some a) None) ≡ Some p → ((x ≡ true) × (b ≡ p)) ⊎ ((y ≡ true) × (a ≡ p))
 or_test true y a b p e = inl (refl, cc)
 or_test false true a b p e = inr (refl, cc)
-or_test false false a b p e = none_some p e
+or_test false false a b p e = absurd (none-some p e)
 
 both_test : (x y z t : Bool) (a b p : ℕ) → pick x (Some a) (pick y (Some b) (pick z (Some b) (pick t (Some a) None))) ≡ Some p →
     (((x ≡ true) × (a ≡ p)) ⊎ ((y ≡ true) × (b ≡ p))) ⊎ (((z ≡ true) × (b ≡ p)) ⊎ ((t ≡ true) × (a ≡ p)))
@@ -91,7 +89,7 @@ both_test true y z t a b p e = inl (inl (refl, cc))
 both_test false true z t a b p e = inl (inr (refl, cc))
 both_test false false true t a b p e = inr (inl (refl, cc))
 both_test false false false true a b p e = inr (inr (refl, cc))
-both_test false false false false a b p e = none_some p e
+both_test false false false false a b p e = absurd (none-some p e)
 
 module _ (m : List ℕ) (a b : ℕ) where
   counts_at : (n : Node) (i p : ℕ) → i ≡ p → i < count_in m → CountsAlike (expr_of (nodes_in m) i) (stands (nodes_in m) n) → CountsAs m m n p
