@@ -1,6 +1,6 @@
 -- Text that is written piece by piece. Assumes nothing.
 use Rattle.std.proofs.Common.{◌≡◌, ℕ, ◌+◌, ◌-◌, ◌<◌, ◌≤◌, List, [], ◌∷◌, ◌++◌, length, get_or, take, drop, decimal, sym, ap, ◌∙◌, append_assoc, arith}
-use Rattle.std.proofs.lemmas.List.{append-nil, take_more, take_all, take_rest}
+use Rattle.std.proofs.lemmas.List.{append-nil, take_more, take_rest}
 use Rattle.codec.specs.Output.{led, parted}
 
 led_push : (b ns : List ℕ) (n : ℕ) → led b (ns ++ n ∷ []) ≡ led b ns ++ (b ++ decimal n)
@@ -17,9 +17,6 @@ pub led_more : (t u v b ns : List ℕ) (i : ℕ) → i < length ns → u ≡ t +
 led_more t u v b ns i h e f =
     f ∙ ap (λ (z : List ℕ). z ++ (b ++ decimal (get_or ns i 0))) e ∙ append_assoc t (led b (take i ns)) (b ++ decimal (get_or ns i 0))
     ∙ ap (λ (z : List ℕ). t ++ z) (sym (led_push b (take i ns) (get_or ns i 0)) ∙ ap (led b) (sym (take_more ns i 0 h)))
-
-pub led_all : (t u b ns : List ℕ) (i : ℕ) → length ns ≤ i → u ≡ t ++ led b (take i ns) → u ≡ t ++ led b ns
-led_all t u b ns i h e = e ∙ ap (λ (z : List ℕ). t ++ led b z) (take_all i ns h)
 
 pub parted_none : (t b ns : List ℕ) → length ns < 1 → t ≡ t ++ parted b ns
 unfolding parted
