@@ -1,6 +1,7 @@
 -- Numbers that are written are read back, and nothing else is read as them. Assumes nothing.
 use Rattle.std.proofs.Common.{◌≡◌, ℕ, zero, suc, ◌+◌, ◌*◌, ◌/◌, ◌%◌, ◌^◌, ◌<◌, ◌≤◌, List, [], ◌∷◌, ◌++◌, length, drop, sym, refl, ap, ◌∙◌, ap₂, pow-suc, arith}
 use Rattle.std.specs.List.{AllByRecursion}
+use Rattle.std.proofs.ByRecursion.{All-drop}
 use Rattle.std.proofs.lemmas.List.{length-append, length-drop, drop_at, nil_from_length}
 use Rattle.codec.specs.Bytes.{number, numbers}
 use Rattle.stored.specs.Form.{bytes_of, written}
@@ -33,11 +34,6 @@ bytes_number (suc n) (b ∷ bs) h a =
     let e : bytes_of n (number n bs) ++ drop n bs ≡ bs = bytes_number n bs m a.1 in
     rw (l, q) (ap (λ (ys : List ℕ). b ∷ ys) e)
 
-all_drop : (n : ℕ) (bs : List ℕ) → AllByRecursion (λ b. b < 256) bs → AllByRecursion (λ b. b < 256) (drop n bs)
-all_drop zero bs a = a
-all_drop (suc n) [] a = tt
-all_drop (suc n) (b ∷ bs) a = all_drop n bs a.1
-
 pub length_written : (xs : List ℕ) → length (written xs) ≡ 8 * length xs
 length_written [] = refl
 length_written (x ∷ xs) = omega (arith, length-append (bytes_of 8 x) (written xs), length_bytes 8 x, length_written xs)
@@ -54,4 +50,4 @@ unfolding numbers
 written_numbers zero bs e a = sym (nil_from_length bs (omega arith))
 written_numbers (suc n) bs e a =
     let l : length (drop 8 bs) ≡ 8 * n = omega (arith, length-drop 8 bs) in
-    rw (written_numbers n (drop 8 bs) l (all_drop 8 bs a)) (bytes_number 8 bs (omega arith) a)
+    rw (written_numbers n (drop 8 bs) l (All-drop (λ b. b < 256) 8 bs a)) (bytes_number 8 bs (omega arith) a)

@@ -1,6 +1,7 @@
 -- Answers that are stored are read back, and nothing else is read as them. Assumes nothing.
 use Rattle.std.proofs.Common.{◌≡◌, ℕ, zero, suc, ◌+◌, ◌*◌, ◌/◌, ◌%◌, ◌^◌, ◌<◌, ◌≤◌, Bool, true, false, ◌&&◌, eqb, leb, List, [], ◌∷◌, ◌++◌, map, length, get_or, take, drop, IfOk, Ok, Err, vec_items, Result, Vec, sym, refl, ap, ◌∙◌, subst, arith, le-leb}
 use Rattle.std.specs.List.{flat_map, AllByRecursion}
+use Rattle.std.proofs.ByRecursion.{All-append}
 use Rattle.std.proofs.lemmas.List.{append_assoc, length-append, length-drop, length-take-le, take-append-drop, take_at, drop_at, get_or_append_left, get_or-take, drop-drop, nil_from_length}
 use Rattle.std.proofs.lemmas.Bool.{eq-eqb}
 use Rattle.std.proofs.lemmas.Bool.Decides.{nat_tests}
@@ -157,13 +158,9 @@ numbers_only xs hs e =
     let t : get_or xs 0 0 ∷ get_or xs 1 0 ∷ get_or xs 2 0 ∷ drop 3 xs ≡ file_numbers hs = rw (m, v, n, j) in
     (sym (front_three xs h) ∙ t, o.shaped)
 
-all_append : (xs ys : List ℕ) → AllByRecursion (λ x. x < 2 ^ 64) xs → AllByRecursion (λ x. x < 2 ^ 64) ys → AllByRecursion (λ x. x < 2 ^ 64) (xs ++ ys)
-all_append [] ys a b = b
-all_append (x ∷ xs) ys a b = (a.0, all_append xs ys a.1 b)
-
 all_small : (hs : List Held) → AllByRecursion (λ a. AllByRecursion (λ x. x < 2 ^ 64) (numbers_of a)) hs → AllByRecursion (λ x. x < 2 ^ 64) (flat_map numbers_of hs)
 all_small [] a = tt
-all_small (h ∷ hs) a = all_append (numbers_of h) (flat_map numbers_of hs) a.0 (all_small hs a.1)
+all_small (h ∷ hs) a = All-append (λ x. x < 2 ^ 64) (numbers_of h) (flat_map numbers_of hs) a.0 (all_small hs a.1)
 
 file_back : (hs : List Held) → Storable hs → read_file (file hs) ≡ holds hs
 unfolding read_file
