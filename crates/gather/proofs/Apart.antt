@@ -1,5 +1,5 @@
 -- Rows in memory, one in every so many numbers. Assumes nothing.
-use Rattle.std.proofs.Common.{◌≡◌, ℕ, zero, suc, ◌+◌, ◌-◌, ◌*◌, ◌≤◌, List, [], ◌∷◌, ◌++◌, get_or, take, drop, sym, refl, ap, ◌∙◌, ap₂, mul-zero, add-one, arith}
+use Rattle.std.proofs.Common.{◌≡◌, ℕ, zero, suc, ◌+◌, ◌-◌, ◌*◌, ◌≤◌, List, [], ◌∷◌, ◌++◌, get_or, take, drop, sym, refl, ap, ◌∙◌, ap₂, mul-zero, mul-suc, add_comm, add-one, arith}
 use Rattle.std.proofs.lemmas.List.{take-take, drop-take, drop-drop, get_or-take}
 use Rattle.provenance.specs.Answer.{Answer}
 use Rattle.gather.specs.Gathered.{rows_apart}
@@ -8,14 +8,11 @@ use Rattle.gather.specs.Gathered.{rows_apart}
 abbrev pub front_row : ℕ → List ℕ → Answer
 front_row w xs = record { row = take w (drop 1 xs); node = get_or xs 0 0 }
 
-times_suc : (span n : ℕ) → span * suc n ≡ span + span * n
-times_suc span n = omega arith
-
 after_suc : (span w n : ℕ) (xs : List ℕ) → rows_apart span w (suc n) xs ≡ rows_apart span w n xs ++ front_row w (drop (span * n) xs) ∷ []
 unfolding rows_apart
 after_suc span w zero xs = rw mul-zero
 after_suc span w (suc n) xs =
-    let later : drop (span * n) (drop span xs) ≡ drop (span * suc n) xs = drop-drop (span * n) span xs ∙ ap (λ k. drop k xs) (sym (times_suc span n)) in
+    let later : drop (span * n) (drop span xs) ≡ drop (span * suc n) xs = drop-drop (span * n) span xs ∙ ap (λ k. drop k xs) (sym (mul-suc span n ∙ add_comm (span * n) span)) in
     ap (λ ys. front_row w xs ∷ ys) (after_suc span w n (drop span xs) ∙ ap (λ ys. rows_apart span w n (drop span xs) ++ front_row w ys ∷ []) later)
 
 -- one row more
@@ -36,7 +33,7 @@ apart_take : (span w n : ℕ) (xs : List ℕ) → 1 + w ≤ span → rows_apart 
 unfolding rows_apart
 apart_take span w zero xs h = refl
 apart_take span w (suc n) xs h =
-    ap (λ k. rows_apart span w (suc n) (take k xs)) (times_suc span n)
+    ap (λ k. rows_apart span w (suc n) (take k xs)) (mul-suc span n ∙ add_comm (span * n) span)
     ∙ ap₂ ◌∷◌ (front_take span w (span * n) xs h) (ap (rows_apart span w n) (drop-take span (span * n) xs) ∙ apart_take span w n (drop span xs) h)
 
 pub apart_same : (span w n : ℕ) (xs ys : List ℕ) → 1 + w ≤ span → take (span * n) xs ≡ take (span * n) ys → rows_apart span w n xs ≡ rows_apart span w n ys

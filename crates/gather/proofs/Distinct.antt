@@ -9,16 +9,13 @@ use Rattle.tables.proofs.RowOrder.{Before, before_true, before_trans, before_apa
 use Rattle.query.specs.Semiring.{Count}
 use Rattle.query.specs.Query.{total}
 use Rattle.circuit.specs.declared.Node.{Node}
-use Rattle.provenance.specs.Answer.{Answer, RowsRise, none, one, more, Listed, here, there}
+use Rattle.provenance.specs.Answer.{Answer, RowsRise, one, more, Listed, here, there}
+use Rattle.provenance.proofs.SameRows.{rest_rises}
 use Rattle.gather.specs.Gathered.{Occurs, counted, Gathered}
 use Rattle.gather.proofs.Together.{part, sum_at, counting, Together}
 
 abbrev After : Row → Answer → Type 0
 After r a = Before r a.row
-
-rise_rest : {a : Answer} {xs : List Answer} → RowsRise (a ∷ xs) → RowsRise xs
-rise_rest one = none
-rise_rest (more less rise) = rise
 
 rise_after : {a : Answer} {xs : List Answer} → RowsRise (a ∷ xs) → AllByRecursion (After a.row) xs
 rise_after one = tt
@@ -50,7 +47,7 @@ listed_sum {r} {i} f rise (here {rest = rest}) =
     omega arith
 listed_sum {r} {i} f rise (there {a = a} {rest = rest} listed) =
     let first : part r f a ≡ 0 = rw (apart r a.row (λ e. before_apart (listed_after (rise_after rise) listed) (sym e))) in
-    let others = listed_sum f (rise_rest rise) listed in
+    let others = listed_sum f (rest_rises rise) listed in
     let all = sum_by-cons (part r f) a rest in
     omega arith
 

@@ -1,5 +1,5 @@
 -- From the rows in order to the rows as they stood. Assumes nothing.
-use Rattle.std.proofs.Common.{◌≡◌, ℕ, zero, suc, ◌+◌, ◌-◌, ◌*◌, ◌<◌, ◌≤◌, Bool, eqb, ltb, List, [], ◌∷◌, length, drop, set, Decides, sum_by, sym, refl, ap, ◌∙◌, ⊎_elim, arith}
+use Rattle.std.proofs.Common.{◌≡◌, ℕ, zero, suc, ◌+◌, ◌-◌, ◌*◌, ◌<◌, ◌≤◌, Bool, eqb, ltb, List, [], ◌∷◌, length, drop, set, Decides, sum_by, sym, refl, ◌∙◌, ⊎_elim, arith}
 use Rattle.std.specs.List.{AllByRecursion}
 use Rattle.std.proofs.lemmas.List.{length-take-le, length-drop, get_or-set_same, drop-set-lt}
 use Rattle.std.proofs.lemmas.List.Sums.{sum_by-cons}
@@ -15,11 +15,6 @@ use Rattle.gather.proofs.Together.{SameSums, together_same}
 use Rattle.gather.proofs.Distinct.{occurs_some, some_occurs, total_sum}
 use Rattle.gather.proofs.Extending.{extended_same}
 use Rattle.gather.proofs.Answering.{gathering_answers}
-
-pub length_apart : (span w n : ℕ) (xs : List ℕ) → length (rows_apart span w n xs) ≡ n
-unfolding rows_apart
-length_apart span w zero xs = refl
-length_apart span w (suc n) xs = ap suc (length_apart span w n (drop span xs))
 
 pub wide_apart : (span w n : ℕ) (xs : List ℕ) → 1 + w ≤ span → span * n ≤ length xs → Wide w (rows_apart span w n xs)
 unfolding rows_apart
