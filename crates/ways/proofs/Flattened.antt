@@ -13,6 +13,14 @@ unfolding ways_numbers
 numbers_push [] m = append-nil (way_numbers m)
 numbers_push (x ∷ ms) m = ap (λ (z : List ℕ). way_numbers x ++ z) (numbers_push ms m) ∙ sym (append_assoc (way_numbers x) (ways_numbers ms) (way_numbers m))
 
+-- the polynomial of one way more
+pub monomials_more : (ws : List Way) (i : ℕ) (w : Way) → i < length ws → w ≡ get_or ws i w →
+    monomials (take i ws) ++ monomial w ∷ [] ≡ monomials (take (i + 1) ws)
+monomials_more ws i w h x =
+    ap (λ (z : Way). monomials (take i ws) ++ monomial z ∷ []) x
+    ∙ sym (map_push monomial (take i ws) (get_or ws i w))
+    ∙ ap monomials (sym (take_more ws i w h))
+
 -- the ways of ws before place i are written behind how many there are
 abbrev pub Written : List Way → ℕ → List ℕ → Type 0
 Written ws i out = out ≡ length ws ∷ ways_numbers (monomials (take i ws))
@@ -29,10 +37,7 @@ written_more ws i out a b c ks n w h x k l e f g p =
     ∙ append_assoc (out ++ w.count ∷ []) (length (vec_items w.marks) ∷ []) (vec_items w.marks)
     ∙ append_assoc out (w.count ∷ []) (length (vec_items w.marks) ∷ vec_items w.marks)
     ∙ ap (λ (z : List ℕ). z ++ way_numbers (monomial w)) e
-    ∙ ap (λ (z : List ℕ). length ws ∷ z) (sym (numbers_push (monomials (take i ws)) (monomial w)) ∙ ap ways_numbers (pushed ∙ ap monomials (sym (take_more ws i w h))))
-  where
-    pushed : monomials (take i ws) ++ monomial w ∷ [] ≡ monomials (take i ws ++ get_or ws i w ∷ [])
-    pushed = ap (λ (z : Way). monomials (take i ws) ++ monomial z ∷ []) x ∙ sym (map_push monomial (take i ws) (get_or ws i w))
+    ∙ ap (λ (z : List ℕ). length ws ∷ z) (sym (numbers_push (monomials (take i ws)) (monomial w)) ∙ ap ways_numbers (monomials_more ws i w h x))
 
 pub written_all : (ws : List Way) (i : ℕ) (out : List ℕ) → length ws ≤ i → Written ws i out → out ≡ numbers_of (monomials ws)
 written_all ws i out h e =

@@ -1,11 +1,12 @@
 -- Text that is written piece by piece. Assumes nothing.
 use Rattle.std.proofs.Common.{◌≡◌, ℕ, ◌+◌, ◌<◌, List, [], ◌∷◌, ◌++◌, length, get_or, take, vec_items, decimal, sym, ap, ◌∙◌, ap₂, append_assoc, arith}
-use Rattle.std.proofs.lemmas.List.{append-nil, map_push, take_more}
+use Rattle.std.proofs.lemmas.List.{append-nil}
 use Rattle.std.proofs.lemmas.Bool.{eq-eqb, ne_eqb}
 use Rattle.provenance.specs.Polynomial.{Monomial}
 use Rattle.polynomial.specs.declared.Way.{Way}
 use Rattle.polynomial.specs.Ways.{monomial, monomials}
 use Rattle.codec.specs.Output.{parted}
+use Rattle.ways.proofs.Flattened.{monomials_more}
 use Rattle.ways.specs.Text.{dash, letter_x, plus_sign, colon, blank, count_text, marks_text, way_text, ways_text, line_text}
 
 pub count_one : (t : List ℕ) (n : ℕ) → n ≡ 1 → t ≡ t ++ count_text n
@@ -45,10 +46,7 @@ ways_more t u a b v ws i w ks h x k e f g p =
     ∙ ap (λ (z : List ℕ). z ++ way_text (monomial w)) f ∙ append_assoc u blank (way_text (monomial w))
     ∙ ap (λ (z : List ℕ). z ++ (blank ++ way_text (monomial w))) e
     ∙ append_assoc t (ways_text (monomials (take i ws))) (blank ++ way_text (monomial w))
-    ∙ ap (λ (z : List ℕ). t ++ z) (sym (ways_push (monomials (take i ws)) (monomial w)) ∙ ap ways_text (pushed ∙ ap monomials (sym (take_more ws i w h))))
-  where
-    pushed : monomials (take i ws) ++ monomial w ∷ [] ≡ monomials (take i ws ++ get_or ws i w ∷ [])
-    pushed = ap (λ (z : Way). monomials (take i ws) ++ monomial z ∷ []) x ∙ sym (map_push monomial (take i ws) (get_or ws i w))
+    ∙ ap (λ (z : List ℕ). t ++ z) (sym (ways_push (monomials (take i ws)) (monomial w)) ∙ ap ways_text (monomials_more ws i w h x))
 
 pub line_all : (t a b u row : List ℕ) (ms : List Monomial) → a ≡ t ++ parted blank row → b ≡ a ++ colon → u ≡ b ++ ways_text ms → u ≡ t ++ line_text row ms
 unfolding line_text

@@ -83,15 +83,12 @@ set_cases P ws a j v h same other = go (cases_eq j a)
 abbrev want : List Bool → ℕ → List Bool → List Bool
 want es a ws = set ws a (not (get_or es a false))
 
-true_not : (b : Bool) → not b ≡ true → b ≡ true → ⊥
-true_not b e f = false≢true (sym (not-true b e) ∙ f)
-
 module _ (m : List ℕ) (i : ℕ) (es : List Bool) (E : Empties m (i + 1) es) where
   unwanted : (a : ℕ) → a ≤ i → not (get_or es a false) ≡ false → normal_at m a ≡ []
   unwanted a h e = (E.each a (omega arith)).0 (not-false (get_or es a false) e)
 
   wanted_some : (a : ℕ) → a ≤ i → not (get_or es a false) ≡ true → normal_at m a ≡ [] → ⊥
-  wanted_some a h e z = true_not (get_or es a false) e ((E.each a (omega arith)).1 z)
+  wanted_some a h e z = false≢true (sym (not-true (get_or es a false) e) ∙ (E.each a (omega arith)).1 z)
 
   want_covers : (ws : List Bool) → length ws ≡ i + 1 → (a j : ℕ) → a ≤ i → (j ≢ a → Covered m ws j) → Covered m (want es a ws) j
   want_covers ws l a j h c =
