@@ -1,5 +1,5 @@
 -- What is read in counts, levels, prices and sets means what the theory promises of them. Assumes nothing.
-use Rattle.std.proofs.Common.{◌≡◌, ℕ, ◌^◌, ◌<◌, ◌≤◌, eqb, ltb, List, get_or, IfOk, Some, None, Ok, Err, Result, sym, refl, ◌∙◌, subst, mod-eq_of_lt, arith}
+use Rattle.std.proofs.Common.{◌≡◌, ℕ, ◌^◌, ◌<◌, ◌≤◌, eqb, ltb, List, get_or, Some, None, sym, refl, ◌∙◌, subst, mod-eq_of_lt, arith}
 use Rattle.std.proofs.lemmas.Bool.Decides.{nat_tests}
 use Rattle.tables.specs.Tables.{Row}
 use Rattle.query.specs.Semiring.{Cost, Count, Level, Price, Sets, bit}
@@ -15,11 +15,6 @@ use Rattle.provenance.proofs.LeastPrice.{least_price}
 use Rattle.semiring.specs.Algebra.{count_algebra, level_algebra, price_algebra, set_algebra}
 use Rattle.semiring.specs.Readings.{Worth}
 use Rattle.semiring.specs.Meanings.{CountsMean, LevelsMean, LeastOf, PricesMean, SetsMean}
-
--- what follows of each thing that is made follows of what was made
-pub made_so : {X Y : Type 0} (P Q : X → Type 0) → ((x : X) → P x → Q x) → (r : Result X Y) → IfOk r P → IfOk r Q
-made_so P Q so (Ok x) h = so x h
-made_so P Q so (Err y) h = tt
 
 pub counts_mean : (vs m asked xs : List ℕ) → Worth count_algebra vs m asked xs → CountsMean vs m asked xs
 counts_mean vs m asked xs worth = record {
