@@ -7,12 +7,12 @@ use Rattle.std.proofs.lemmas.Bool.{false≢true}
 use Rattle.tables.specs.Tables.{Row, before, same_row}
 use Rattle.tables.proofs.RowOrder.{before_true, Rank, equal, first, last, rank}
 use Rattle.provenance.specs.Polynomial.{Monomial, sum}
-use Rattle.provenance.proofs.Rising.{Rising}
+use Rattle.provenance.proofs.Rising.{Rising, true_before}
 use Rattle.polynomial.specs.declared.Way.{Way}
 use Rattle.polynomial.specs.Rise.{proper, Small}
 use Rattle.polynomial.specs.Ways.{monomial, monomials}
 use Rattle.polynomial.specs.Fronts.{Taken, Front}
-use Rattle.polynomial.proofs.ProperRising.{before_test, proper_rising, rising_proper}
+use Rattle.polynomial.proofs.ProperRising.{proper_rising, rising_proper}
 use Rattle.polynomial.proofs.SumMerge.{joined, sum_none, sum_left, sum_right, sum_both}
 
 -- a row that is neither equal to another nor before it is after it
@@ -22,7 +22,7 @@ else_after a b e f = go (rank a b) e f
     go : {s t : Bool} → Rank a b s t → s ≡ false → t ≡ false → before b a ≡ true
     go (equal d) e f = absurd (false≢true (sym e))
     go (first p) e f = absurd (false≢true (sym f))
-    go (last p) e f = before_test b a p
+    go (last p) e f = true_before p
 
 -- what stands behind the first
 abbrev pub behind : List Way → List Way

@@ -2,10 +2,10 @@
 use Rattle.std.proofs.Common.{◌≡◌, ℕ, ◌≤◌, Bool, true, ◌&&◌, ltb, leb, List, [], ◌∷◌, refl}
 use Rattle.std.specs.List.{AllByRecursion}
 use Rattle.std.proofs.lemmas.Bool.{and_parts, and_from, leb-true, le-leb, ltb-true, lt-ltb}
-use Rattle.tables.specs.Tables.{Row, before}
-use Rattle.tables.proofs.RowOrder.{Before, before_true, before_apart, before_trans, Rank, equal, first, last, rank}
+use Rattle.tables.specs.Tables.{before}
+use Rattle.tables.proofs.RowOrder.{before_true}
 use Rattle.provenance.specs.Polynomial.{Monomial}
-use Rattle.provenance.proofs.Rising.{Sorted, After, Rising}
+use Rattle.provenance.proofs.Rising.{Sorted, After, Rising, true_before}
 use Rattle.polynomial.specs.Rise.{every, rise, proper}
 
 pub every_all : {A : Type 0} (f : A → Bool) (P : A → Type 0) → ((x : A) → f x ≡ true → P x) → (xs : List A) → every f xs ≡ true → AllByRecursion P xs
@@ -15,14 +15,6 @@ every_all f P h (x ∷ xs) e = let b = and_parts (f x) (every f xs) e in (h x b.
 all_every : {A : Type 0} (f : A → Bool) (P : A → Type 0) → ((x : A) → P x → f x ≡ true) → (xs : List A) → AllByRecursion P xs → every f xs ≡ true
 all_every f P h [] a = refl
 all_every f P h (x ∷ xs) a = and_from (f x) (every f xs) (h x a.0) (all_every f P h xs a.1)
-
-pub before_test : (a b : Row) → Before a b → before a b ≡ true
-before_test a b p = go (rank a b)
-  where
-    go : {s t : Bool} → Rank a b s t → t ≡ true
-    go (equal e) = absurd (before_apart p e)
-    go (first _) = refl
-    go (last q) = absurd (before_apart (before_trans p q) refl)
 
 pub rise_sorted : (ks : List ℕ) → rise ks ≡ true → Sorted ks
 rise_sorted [] e = tt
@@ -54,4 +46,4 @@ rising_proper (m ∷ ms) r =
     and_from (ltb 0 m.count && rise m.marks) (every (λ x. before m.marks x.marks) ms && proper ms)
     (and_from (ltb 0 m.count) (rise m.marks) (lt-ltb 0 m.count r.some) (sorted_rise m.marks r.sorted))
     (and_from (every (λ x. before m.marks x.marks) ms) (proper ms)
-    (all_every (λ x. before m.marks x.marks) (After m.marks) (λ x. before_test m.marks x.marks) ms r.after) (rising_proper ms r.rest))
+    (all_every (λ x. before m.marks x.marks) (After m.marks) (λ x p. true_before p) ms r.after) (rising_proper ms r.rest))
