@@ -1,30 +1,18 @@
 -- A product by parts: the product of a polynomial cut in two is the sum of two products, and each fits where the whole does. Assumes nothing.
-use Rattle.std.proofs.Common.{◌≡◌, ℕ, ◌+◌, ◌*◌, ◌≤◌, true, List, [], ◌∷◌, ◌++◌, Err, sym, refl, subst, add-mul, arith}
+use Rattle.std.proofs.Common.{◌≡◌, ℕ, ◌+◌, ◌≤◌, true, List, [], ◌∷◌, ◌++◌, Err, sym, refl, subst, add-mul, arith}
 use Rattle.std.specs.List.{AllByRecursion}
-use Rattle.query.specs.Semiring.{Count}
-use Rattle.query.proofs.Named.{count_lawful}
 use Rattle.provenance.specs.Polynomial.{Monomial, merged, put_monomial, sum, scaled, multiplied}
 use Rattle.provenance.specs.Polynomial.{normal_value}
 use Rattle.provenance.proofs.PutCases.{put_cases}
-use Rattle.provenance.proofs.Says.{sum_says, multiplied_says}
 use Rattle.provenance.proofs.Rising.{After, Rising, sum_rising, multiplied_rising, merged_sorted}
 use Rattle.provenance.proofs.NormalOne.{counted_one}
+use Rattle.provenance.proofs.Free.{counts, counts_sum, counts_product}
 use Rattle.polynomial.specs.Rise.{size_of, Small, FitsIn, proper, rise}
 use Rattle.polynomial.specs.Ways.{times}
 use Rattle.polynomial.specs.Told.{Told}
 use Rattle.polynomial.specs.declared.error.PolynomialError.{PolynomialError}
 use Rattle.polynomial.specs.declared.error.PolynomialError.TheVariants.{Memory, TooLarge}
 use Rattle.polynomial.proofs.ProperRising.{proper_rising, sorted_rise}
-
--- how a polynomial counts
-abbrev counts : (ℕ → ℕ) → List Monomial → ℕ
-counts v ms = normal_value Count v ms
-
-sum_counts : (v : ℕ → ℕ) (xs ys : List Monomial) → counts v (sum xs ys) ≡ counts v xs + counts v ys
-sum_counts v xs ys = sum_says Count (λ _. Unit {0}) count_lawful v (λ _. tt) xs ys
-
-product_counts : (v : ℕ → ℕ) (xs ys : List Monomial) → counts v (multiplied xs ys) ≡ counts v xs * counts v ys
-product_counts v xs ys = multiplied_says Count (λ _. Unit {0}) count_lawful v (λ _. tt) xs ys
 
 append_counts : (v : ℕ → ℕ) (xs ys : List Monomial) → counts v (xs ++ ys) ≡ counts v xs + counts v ys
 unfolding normal_value
@@ -34,7 +22,7 @@ append_counts v (x ∷ xs) ys = omega (arith, append_counts v xs ys)
 pub sum_turned : (xs ys : List Monomial) → Rising xs → Rising ys → sum xs ys ≡ sum ys xs
 sum_turned xs ys r q =
     counted_one (sum xs ys) (sum ys xs) (sum_rising xs ys r q) (sum_rising ys xs q r)
-    (λ v. omega (arith, sum_counts v xs ys, sum_counts v ys xs))
+    (λ v. omega (arith, counts_sum v xs ys, counts_sum v ys xs))
 
 all_front : (P : Monomial → Type 0) (xs ys : List Monomial) → AllByRecursion P (xs ++ ys) → AllByRecursion P xs
 all_front P [] ys a = tt
@@ -54,7 +42,7 @@ split_left a b q r s =
     counted_one (sum (multiplied a q) (multiplied b q)) (multiplied (a ++ b) q)
     (sum_rising (multiplied a q) (multiplied b q) (multiplied_rising a q (rising_front a b r) s) (multiplied_rising b q (rising_back a b r) s))
     (multiplied_rising (a ++ b) q r s)
-    (λ v. rw (sum_counts v, product_counts v a q, product_counts v b q, product_counts v (a ++ b) q, append_counts v a b) (sym (add-mul (counts v a) (counts v b) (counts v q))))
+    (λ v. rw (counts_sum v, counts_product v a q, counts_product v b q, counts_product v (a ++ b) q, append_counts v a b) (sym (add-mul (counts v a) (counts v b) (counts v q))))
 
 -- one monomial more makes no polynomial smaller
 put_grows : (m : Monomial) (xs : List Monomial) → size_of xs ≤ size_of (put_monomial m xs)

@@ -10,13 +10,14 @@ use Rattle.provenance.proofs.Rising.{sum_rising, multiplied_rising, normal_risin
 use Rattle.provenance.proofs.NormalOne.{counted_one}
 
 module _ (v : ℕ → ℕ) where
-  abbrev counts : List Monomial → ℕ
+  -- how a polynomial counts
+  abbrev pub counts : List Monomial → ℕ
   counts p = normal_value Count v p
 
-  counts_sum : (p q : List Monomial) → counts (sum p q) ≡ counts p + counts q
+  pub counts_sum : (p q : List Monomial) → counts (sum p q) ≡ counts p + counts q
   counts_sum p q = sum_says Count (λ _. Unit {0}) count_lawful v (λ _. tt) p q
 
-  counts_product : (p q : List Monomial) → counts (multiplied p q) ≡ counts p * counts q
+  pub counts_product : (p q : List Monomial) → counts (multiplied p q) ≡ counts p * counts q
   counts_product p q = multiplied_says Count (λ _. Unit {0}) count_lawful v (λ _. tt) p q
 
   counts_one : counts Polynomials.one ≡ 1
