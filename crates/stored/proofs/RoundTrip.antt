@@ -1,7 +1,7 @@
 -- Answers that are stored are read back, and nothing else is read as them. Assumes nothing.
 use Rattle.std.proofs.Common.{◌≡◌, ℕ, zero, suc, ◌+◌, ◌*◌, ◌/◌, ◌%◌, ◌^◌, ◌<◌, ◌≤◌, Bool, true, false, ◌&&◌, eqb, leb, List, [], ◌∷◌, ◌++◌, map, length, get_or, take, drop, IfOk, Ok, Err, vec_items, Result, Vec, sym, refl, ap, ◌∙◌, subst, arith, le-leb}
 use Rattle.std.specs.List.{flat_map, AllByRecursion}
-use Rattle.std.proofs.ByRecursion.{All-append}
+use Rattle.std.proofs.ByRecursion.{All-append, All-from_get_or}
 use Rattle.std.proofs.lemmas.List.{append_assoc, length-append, length-drop, length-take-le, take-append-drop, take_at, drop_at, get_or_append_left, get_or-take, drop-drop, nil_from_length}
 use Rattle.std.proofs.lemmas.Bool.{eq-eqb}
 use Rattle.std.proofs.lemmas.Bool.Decides.{nat_tests}
@@ -186,14 +186,10 @@ file_apart hs gs s t e =
     let z : holds hs ≡ holds gs = sym (file_back hs s) ∙ ap read_file e ∙ file_back gs t in
     cc
 
-all_below : (bs : List ℕ) → ((i : ℕ) → get_or bs i 0 < 256) → AllByRecursion (λ b. b < 256) bs
-all_below [] h = tt
-all_below (b ∷ bs) h = (h 0, all_below bs (λ i. h (suc i)))
-
 -- the code reads only files
 pub only_files : (bs : List ℕ) (r : Result (Vec Answer Global) FileError) → ((i : ℕ) → get_or bs i 0 < 256) → FileRead (read_file bs) r →
     IfOk r (λ v. bs ≡ file (map held (vec_items v)))
-only_files bs (Ok v) h e = (file_only bs (map held (vec_items v)) (all_below bs h) e).0
+only_files bs (Ok v) h e = (file_only bs (map held (vec_items v)) (All-from_get_or (λ b. b < 256) bs 0 (λ i _. h i)) e).0
 only_files bs (Err d) h e = tt
 
 pub round_trip : RoundTrip
