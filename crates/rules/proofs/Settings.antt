@@ -1,17 +1,10 @@
 -- The parts of a word that gives a value. Assumes nothing.
-use Rattle.std.proofs.Common.{◌≡◌, ℕ, ◌<◌, Bool, true, false, List, ◌∷◌, ◌++◌, length, get_or, None, Ok, Err, codes, inl, inr, arith}
+use Rattle.std.proofs.Common.{◌≡◌, ℕ, ◌<◌, List, ◌∷◌, ◌++◌, length, get_or, None, Ok, Err, codes, inl, inr}
 use Rattle.std.specs.Option.{ok_or}
 use Rattle.rules.specs.declared.error.ArgumentError.{ArgumentError}
 use Rattle.rules.specs.declared.error.ArgumentError.TheVariants.{NoMemory, UnknownRule, NoTop, NoSetting, NoNumber, NoMark}
 use Rattle.rules.specs.declared.setting.Setting.TheVariants.{Mark}
 use Rattle.rules.specs.Words.{NumberRead, MarkRead, Split, SettingRead}
-
--- a test that fails
-pub differs : {P : Type 0} → ((◌≡◌ {A = Bool} false true → P) × (P → ◌≡◌ {A = Bool} false true)) → P → ⊥
-differs d p =
-    let e = d.1 p in
-    let z : ◌≡◌ {A = ℕ} 0 1 = cc in
-    omega arith
 
 pub none_given : {T : Type 0} (bs : List ℕ) (e : ArgumentError) → Err e ≡ ok_or {T = T} None NoSetting → SettingRead bs (Err NoSetting) → SettingRead bs (Err e)
 none_given bs e f h =

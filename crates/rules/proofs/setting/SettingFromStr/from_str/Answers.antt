@@ -1,9 +1,9 @@
-use Rattle.std.proofs.Common.{Some, None, arith}
-use Rattle.std.proofs.lemmas.Bool.Decides.{Decides-eqb}
+use Rattle.std.proofs.Common.{false, Some, None, refl, arith}
+use Rattle.std.proofs.lemmas.Bool.Decides.{Decides-eqb, not_from_Decides}
 use Rattle.std.proofs.lemmas.Slice.Eq.{slice_eq-Decides}
 use Rattle.std.proofs.lemmas.Str.Pattern.{split_parts}
 use Rattle.std.proofs.lemmas.Result.{err_from_is_err_and}
-use Rattle.rules.proofs.Settings.{differs, none_given, value_wrong, mark_wrong, mark_given}
+use Rattle.rules.proofs.Settings.{none_given, value_wrong, mark_wrong, mark_given}
 use Rattle.rules.proofs.setting.SettingFromStr.from_str.Goals as goal
 
 pub returns-in_err-name : goal.returns-in_err-name
@@ -25,10 +25,10 @@ returns-in_err-mark c =
     let p = err_from_is_err_and c.from_residual-in_err-mark.result c.from_residual-in_err-mark.ensures.1 in
     let some = rw c.in_ok-name.ensures.ok_part at c.split_once.ensures.cases in
     let s = split_parts 61 c.args.word.now (Some (c.in_ok-name.name, c.in_ok-name.value)) some (omega arith) in
-    rw (p.1, p.2) (mark_wrong c.args.word.now _ _ s _ (differs (slice_eq-Decides Decides-eqb _ _ _ c.if-eq.ensures)) c.in_err-mark.ensures)
+    rw (p.1, p.2) (mark_wrong c.args.word.now _ _ s _ (not_from_Decides false (slice_eq-Decides Decides-eqb _ _ _ c.if-eq.ensures) refl) c.in_err-mark.ensures)
 
 pub returns : goal.returns
 returns c =
     let some = rw c.in_ok-name.ensures.ok_part at c.split_once.ensures.cases in
     let s = split_parts 61 c.args.word.now (Some (c.in_ok-name.name, c.in_ok-name.value)) some (omega arith) in
-    mark_given c.args.word.now _ _ s _ _ (differs (slice_eq-Decides Decides-eqb _ _ _ c.if-eq.ensures)) c.in_ok-mark.ensures c.in_ok-value.ensures
+    mark_given c.args.word.now _ _ s _ _ (not_from_Decides false (slice_eq-Decides Decides-eqb _ _ _ c.if-eq.ensures) refl) c.in_ok-mark.ensures c.in_ok-value.ensures
