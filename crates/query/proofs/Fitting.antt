@@ -2,10 +2,10 @@
 use Rattle.std.proofs.Common.{◌≡◌, ℕ, zero, suc, ◌*◌, ◌≤◌, Bool, true, false, leb, List, length, get_or, drop, refl, suc-mul, arith}
 use Rattle.std.specs.List.{AllByRecursion}
 use Rattle.std.proofs.lemmas.List.{length-drop, length-take-le}
-use Rattle.std.proofs.lemmas.Bool.Decides.{nat_tests}
 use Rattle.tables.specs.Bool.{pick}
 use Rattle.tables.specs.Tables.{Fit, fits, faulty, fit, fit_from, table_fits, table_size, rows_in, tables_from, widths_from, tables_in, widths_in}
 use Rattle.tables.proofs.Fits.{size_within}
+use Rattle.tables.proofs.Places.{few_columns}
 use Rattle.query.proofs.Steps.{differ}
 use Rattle.query.proofs.Shown.{Narrow, RowsWide}
 
@@ -18,9 +18,6 @@ unfolding fit
 fit_start m e =
     let a = pick_fits (leb 1 (get_or m 0 0)) _ 0 e in
     (pick_fits (leb (get_or m 0 0) 8) _ 8 a.1).1
-
-few_columns : (xs : List ℕ) → table_fits xs ≡ true → get_or xs 1 0 ≤ 4
-few_columns xs e = grind (arith, nat_tests)
 
 rows_in_wide : (n w : ℕ) (xs : List ℕ) → n * w ≤ length xs → AllByRecursion (λ r. length r ≡ w) (rows_in n w xs)
 unfolding rows_in
