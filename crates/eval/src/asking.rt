@@ -96,6 +96,7 @@ fn answer_in<const HINTS: usize>(
 }
 
 /// Answers a question with as much local memory as suits it.
+// A chain of sizes, and no size that is computed: the length of an array is a constant, and nothing here is allocated.
 fn answer(asked: Weighed<'_>, work: &mut [u64], nodes: &mut [u64], out: &mut [u64]) -> usize
     requires { Ready asked (length work.old) (length nodes.old) (length out.old) }
     ensures { Given asked.entry.question nodes.old nodes.new out.old out.new result }
