@@ -26,6 +26,7 @@ fn clear_heads(hints: &mut [u64])
 impl<'a> Circuit<'a> {
     /// Makes the memory an empty store, and the hints those of one, so that equal nodes will stand once.
     /// `false`, with nothing changed, where the memory is empty.
+    // A Boolean, as of a set's `insert`: there is one way to fail, and no value.
     pub fn start(&mut self) -> bool
         ensures started { MatchBool result (Started self.old.nodes.now self.new.nodes.now self.old.hints.now self.new.hints.now)
             ((length self.old.nodes.now ≡ 0) × (self.new.nodes.now ≡ self.old.nodes.now) × (self.new.hints.now ≡ self.old.hints.now)) }

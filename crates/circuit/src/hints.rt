@@ -32,10 +32,7 @@ fn slot(node: Node, heads: usize) -> usize
 fn stands_at(nodes: &[u64], node: Node, place: u64) -> bool
     ensures { Decides result (StandsAt nodes.now node place) }
 {
-    let Some(count) = nodes.first() else {
-        return false;
-    };
-    place < *count && holds(nodes, node, place)
+    nodes.first().is_some_and(|count| place < *count) && holds(nodes, node, place)
 }
 
 /// The link behind a place: 0, or one more than an earlier place.

@@ -1,4 +1,4 @@
-//! The nodes that an engine asks for: a mark, and or and both of two nodes that stand.
+//! The nodes that expressions are made of: a mark, and or and both of two nodes that stand.
 ghost use Rattle.std.specs.Prelude.{◌≡◌};
 ghost use Rattle.circuit.specs.Hints.{FoundOrAdded};
 ghost use Rattle.circuit.specs.Joins.{or_is, both_is, Joined};

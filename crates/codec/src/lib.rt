@@ -11,7 +11,7 @@ pub use input::{Decoded, InputError};
 pub use output::{Refused, push_parted};
 pub use query_form::query_in;
 pub use tables_form::tables_in;
-pub use words::push_words;
+pub use words::{WORD, push_words};
 
 #[cfg(test)]
 mod tests;

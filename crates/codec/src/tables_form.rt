@@ -14,6 +14,7 @@ const MAX_ROWS: u8 = 32;
 const MAX_COLUMNS: u8 = 4;
 
 /// What bytes begin with, where that is a table: how many rows and columns it has, the bytes of its cells, and the bytes after it.
+// Not the tables' `Table`: these cells are bytes that are not yet numbers, and at most 32 rows.
 #[derive(Clone, Copy)]
 struct FrontTable<'a> {
     rows: u8,
@@ -67,6 +68,7 @@ pub fn tables_in(heap: Global, bytes: &[u8]) -> Result<Decoded<'_>, InputError>
     let mut numbers = Vec::new(heap);
     numbers.push(u64::from(*count))?;
     let mut rest = rest;
+    // A count of tables, and no list of them: each one's own bytes say where the next begins.
     for t in 0..*count as usize {
         let table = table_at_front(rest).ok_or(InputError::Table(t))?;
         push_table(&mut numbers, table)?;

@@ -4,7 +4,8 @@ ghost use Rattle.codec.specs.Bytes.{numbers};
 
 use std::alloc::AllocError;
 
-pub(crate) const WORD: usize = 8;
+/// How many bytes a number takes.
+pub const WORD: usize = 8;
 
 /// Appends the numbers that `bytes` write. Fewer than eight bytes at the end write none.
 pub fn push_words(memory: &mut Vec<u64>, bytes: &[u8]) -> Result<(), AllocError>

@@ -13,21 +13,23 @@ use tables::fit;
 /// Weights up to which hints of a size are enough, and these sizes: two hints for each node, and two nodes for each row and two more.
 const TINY: usize = 32;
 
-const TINY_HINTS: usize = 132;
+const TINY_HINTS: usize = 4 + 4 * TINY;
 
 const LIGHT: usize = 128;
 
-const LIGHT_HINTS: usize = 516;
+const LIGHT_HINTS: usize = 4 + 4 * LIGHT;
 
 const MIDDLE: usize = 1024;
 
-const MIDDLE_HINTS: usize = 4100;
+const MIDDLE_HINTS: usize = 4 + 4 * MIDDLE;
 
 const LARGE: usize = 2048;
 
-const LARGE_HINTS: usize = 8196;
+const LARGE_HINTS: usize = 4 + 4 * LARGE;
 
-const HEAVY_HINTS: usize = 32772;
+const HEAVY: usize = 8192;
+
+const HEAVY_HINTS: usize = 4 + 4 * HEAVY;
 
 /// A question, and what it weighs.
 #[derive(Clone, Copy)]
@@ -47,9 +49,7 @@ fn readied<'a>(
     ensures { Readied tables.now signs.now (length work.old) nodes out result }
 {
     let question = Question::read(fit(tables)?, signs)?;
-    let Some(weight) = weigh(question, work) else {
-        return Err(Refusal::Weight);
-    };
+    let weight = weigh(question, work).ok_or(Refusal::Weight)?;
     if work.len() < SPAN * weight {
         return Err(Refusal::Work(work.len()));
     }
@@ -96,6 +96,7 @@ fn answer_in<const HINTS: usize>(
 }
 
 /// Answers a question with as much local memory as suits it.
+// A chain of sizes, and no size that is computed: the length of an array is a constant, and nothing here is allocated.
 fn answer(asked: Weighed<'_>, work: &mut [u64], nodes: &mut [u64], out: &mut [u64]) -> usize
     requires { Ready asked (length work.old) (length nodes.old) (length out.old) }
     ensures { Given asked.entry.question nodes.old nodes.new out.old out.new result }

@@ -62,6 +62,7 @@ fn evaluate<S: Semiring>(
 }
 
 /// The values of the chosen nodes, each at its place.
+// Chosen and done are two rows: the first is whole before the second begins.
 fn evaluate_chosen<S: Semiring>(
     heap: Global,
     semiring: &S,

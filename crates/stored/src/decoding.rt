@@ -37,6 +37,7 @@ fn answers_in(heap: Global, numbers: &[u64]) -> Result<Vec<Answer>, FileError>
     }
     let mut answers = Vec::new(heap);
     let mut rest = rest;
+    // A count of answers, and no list of them: each one's own numbers say where the next begins, and a damaged one is told by its place.
     for place in 0..*count {
         let parts = cut_out(rest, place)?;
         answers.push(owned(heap, parts)?)?;

@@ -4,10 +4,8 @@ ghost use Rattle.stored.specs.Form.{bytes_of, written};
 ghost use Rattle.stored.specs.Reads.{NumbersRead};
 
 use crate::FileError;
-use codec::push_words;
+use codec::{WORD, push_words};
 use std::alloc::{AllocError, Global};
-
-const WORD: usize = 8;
 
 /// Appends the bytes of a number.
 pub(crate) fn push_number(bytes: &mut Vec<u8>, number: u64) -> Result<(), AllocError>

@@ -7,7 +7,8 @@ const MAX_WIDTH: usize = 8;
 
 const NODE: usize = 3;
 
-/// An answer as it stands in numbers: how many cells its rows have, and its nodes and its rows with their counts; and the numbers behind it.
+/// An answer as it stands in numbers: how many cells its rows have, and its nodes and its rows with their counts; and the numbers
+/// behind it.
 #[derive(Clone, Copy)]
 pub(crate) struct Parts<'a> {
     pub width: usize,

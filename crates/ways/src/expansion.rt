@@ -54,6 +54,7 @@ impl Root<'_> {
         ensures { Told room.numbers (normal_at self.entry.store.nodes.now self.entry.node) result }
     {
         let mut made = Vec::new(room.heap);
+        // A push for each, and no `map`: the polynomial of a node is made from those before it.
         for _ in 0..self.node {
             let next = self.expand_next(room, wanted, &made)?;
             made.push(next)?;
@@ -61,8 +62,8 @@ impl Root<'_> {
         self.expand_next(room, wanted, &made)
     }
 
-    // Three rows by place, and not one row of structs: each is filled by a pass of its own, and the next pass reads all of it.
     /// The normal form of this node.
+    // Three rows by place, and not one row of structs: each is filled by a pass of its own, and the next pass reads all of it.
     fn normal_form(self, room: Room) -> Result<Polynomial, PolynomialError>
         ensures { Told room.numbers (normal_at self.entry.store.nodes.now self.entry.node) result }
     {

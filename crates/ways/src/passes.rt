@@ -7,8 +7,8 @@ use crate::root::Root;
 use circuit::Node;
 use std::alloc::{AllocError, Global};
 
-// That a node names earlier places than a row is long stays a clause: it is of a node and a row, and no value here holds both.
 /// Whether a node comes to nothing, by whether the nodes before it do.
+// That a node names earlier places than a row is long stays a clause: it is of a node and a row, and no value here holds both.
 fn empty_node(node: Node, empty: &[bool]) -> bool
     requires { NamesEarlier (length empty.now) node }
     ensures { result ≡ empty_node empty.now node }
@@ -42,6 +42,7 @@ impl Root<'_> {
         ensures { IfOk result (λ v. Empties self.entry.store.nodes.now (self.entry.node + 1) v.items) }
     {
         let mut empty = Vec::new(heap);
+        // A push for each, and no `map`: what is said of a node is made from what was said of those before it.
         for place in 0..self.node + 1 {
             let none = empty_node(self.store.node(place), &empty);
             empty.push(none)?;

@@ -1,4 +1,5 @@
-//! The years in which a row holds: a semiring that the layers below know nothing of, written as a test that a new one needs no change there.
+//! The years in which a row holds: a semiring that the layers below know nothing of, written as a test that a new one needs no
+//! change there.
 #![tactic(auto)]
 
 ghost use Rattle.years.specs.Years.{year_algebra};

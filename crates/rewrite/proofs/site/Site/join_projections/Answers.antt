@@ -19,7 +19,7 @@ returns-in_err-kept_columns-2 c = rw c.from_residual-in_err-kept_columns-2.ensur
 
 pub returns : goal.returns
 returns c =
-    join_projections_made _ _ _ _ _ c.in_ok-outer.ensures c.in_ok-inner.ensures c.from-joined.ensures
+    join_projections_made _ _ _ _ _ c.in_ok-outer.ensures c.in_ok-inner.ensures c.from-joined.ensures.is
     (c.keep_cells.ensures
     ∙ ap₂ (λ ds cs. cells ds cs ++ drop (length c.in_ok-kept_columns.field-0.now) (0 ∷ 0 ∷ 0 ∷ 0 ∷ [])) c.in_ok-kept_columns.ensures c.in_ok-kept_columns-2.ensures)
     c.put.ensures

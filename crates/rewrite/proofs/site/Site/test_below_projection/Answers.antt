@@ -17,5 +17,5 @@ returns-in_err-columns c = rw c.from_residual-in_err-columns.ensures (not_there 
 
 pub returns : goal.returns
 returns c =
-    test_below_projection_made _ _ _ _ c.in_ok-selected.ensures c.in_ok-projected.ensures c.from-moved.ensures
+    test_below_projection_made _ _ _ _ c.in_ok-selected.ensures c.in_ok-projected.ensures c.from-moved.ensures.is
     (c.test_through-test.ensures ∙ ap (λ cs. through cs (test_of c.in_ok-selected.selected.test)) c.in_ok-columns.ensures) c.put.ensures

@@ -18,4 +18,4 @@ returns-then-not-reads_behind c = not_behind _ _ c.in_ok-selected.ensures c.in_o
 
 pub returns : goal.returns
 returns c =
-    test_into_right_made _ _ c.in_ok-selected.ensures c.in_ok-product.ensures c.in_ok-left.ensures _ _ (sym c.if-not-reads_behind.ensures) c.moved_left-test.ensures c.from-moved.ensures c.put.ensures
+    test_into_right_made _ _ c.in_ok-selected.ensures c.in_ok-product.ensures c.in_ok-left.ensures _ _ (sym c.if-not-reads_behind.ensures) c.moved_left-test.ensures c.from-moved.ensures.is c.put.ensures
