@@ -9,16 +9,13 @@ use query::parse;
 use std::alloc::{AllocError, Global};
 use std::io::Read;
 use std::{env, fs};
-use stored::{Answer, encode};
+use stored::{Answer, NODE, encode};
 use ways::{line, ways};
 
 /// Memory for a query of weight 128: nine numbers a row, and three a node.
 const WORK: usize = 1152;
 
 const NODES: usize = 775;
-
-/// How many numbers a node takes.
-const NODE: usize = 3;
 
 const OUT: usize = 1153;
 
@@ -37,6 +34,7 @@ fn row_line(heap: Global, nodes: &[u64], row: &[u64]) -> anyhow::Result<String> 
 }
 
 /// A count and `each` numbers for every item counted, from the front of a memory.
+// It copies what there is; what reads a stored file refuses where items are not there, so one for both would be no plainer.
 fn counted(heap: Global, memory: &[u64], each: usize) -> Result<Vec<u64>, AllocError> {
     let count = memory.first().map_or(0, |count| *count as usize);
     let size = each.saturating_mul(count).saturating_add(1);
@@ -63,6 +61,7 @@ fn answer(
     let mut out = [0; OUT];
     match ask(tables, signs, &mut work, &mut nodes, &mut out) {
         Err(refusal) => {
+            // By hand, and no `From`: the query engine is built without the printed form, and this program owns neither type.
             rt.println(Refused {
                 number: refusal.number(),
                 place: refusal.place() as u64,

@@ -36,6 +36,8 @@ fn stands_at(nodes: &[u64], node: Node, place: u64) -> bool
 }
 
 /// The link behind a place: 0, or one more than an earlier place.
+// A number, and no `Option`: hints stand in a lent slice of numbers, where 0 says that there is none; turned into one and back they would
+// be no plainer.
 fn link(hints: &[u64], place: u64) -> u64
     ensures { result ≡ link_of hints.now place }
 {

@@ -44,6 +44,7 @@ impl<'a> Circuit<'a> {
     }
 
     /// The place of "a or b", for two nodes of the store: the other one where one is never, and else a node that is found or added.
+    // By arms, here and below, and no `or_else`: what a closure does to the circuit has only names that are the prover's own.
     pub fn or(&mut self, a: u64, b: u64) -> Option<u64>
         ensures joined { Joined self.old.nodes.now self.new.nodes.now self.old.hints.now self.new.hints.now
             (or_is self.old.nodes.now a b) (Node.Or a b) result }

@@ -54,7 +54,7 @@ pub fn check_store(nodes: &[u64]) -> Result<Store<'_>, BadNode>
     let Some(count) = nodes.first() else {
         return Err(BadNode { place: 0 });
     };
-    // By place: a node is three numbers at a place of the store, and its place is what is told where it is amiss.
+    // By place, and no chunks: the count may say more nodes than the memory holds, and the place of the first that is missing is told.
     for place in 0..*count {
         if node_at(nodes, place).is_none() {
             return Err(BadNode { place });

@@ -6,6 +6,7 @@ ghost use Rattle.codec.specs.Reads.{QueryRead};
 use crate::input::{Decoded, InputError};
 use std::alloc::{AllocError, Global};
 
+// The limits of the byte form: a layout of its own.
 const MAX_OPERATORS: u8 = 16;
 
 const OPERATOR: usize = 6;

@@ -7,6 +7,7 @@ use crate::input::{Decoded, InputError};
 use crate::words::{WORD, push_words};
 use std::alloc::{AllocError, Global};
 
+// The limits of the byte form, a byte each: a layout of its own.
 const MAX_TABLES: u8 = 8;
 
 const MAX_ROWS: u8 = 32;

@@ -63,6 +63,8 @@ fn readied<'a>(
 }
 
 /// Answers a question by way of hints for all the nodes that it may need, and says how many rows the answer has.
+// Three lent rows, and no struct of them, here and below: each goes on alone, to the engine, the circuit and the gathering, so one
+// would be no plainer.
 fn answer_by(
     asked: Weighed<'_>,
     work: &mut [u64],

@@ -31,6 +31,7 @@ impl From<Misfit> for Refusal {
     }
 }
 
+// By hand, as above.
 impl From<Faulty> for Refusal {
     ghost from_gives = { λ e r. r ≡ Query e.operator };
 

@@ -22,6 +22,8 @@ const NONE: Entry<'static> = Entry {
 };
 
 /// Gathers rows by way of `entries`, of which there are enough.
+// Batch, circuit and answer are three parameters, here and below: the first is read while the others are written, so one struct for
+// all would be no plainer.
 fn gather_by<'a>(
     batch: Batch<'a>,
     entries: &mut [Entry<'a>],

@@ -13,6 +13,7 @@ use std::collections::VecDeque;
 use tables::order;
 
 /// Takes the first way of the sum of two polynomials, of which these are the ways.
+// That the ways are proper stays a clause here too: a type of a deque of them would serve this function alone, and be no plainer.
 fn take_first(a: &mut VecDeque<Way>, b: &mut VecDeque<Way>) -> Result<Option<Way>, PolynomialError>
     requires left { proper (monomials a.old.items) ≡ true }
     requires right { proper (monomials b.old.items) ≡ true }

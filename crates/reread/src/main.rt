@@ -30,6 +30,7 @@ fn asked(heap: Global, answer: &Answer) -> Result<Vec<u64>, AllocError> {
 }
 
 /// What a rule reads for each row of an answer.
+// A match on a closed enum, and no closures: prices take and give other values than the other three, so those would be no plainer.
 fn worths(heap: Global, command: &Command, answer: &Answer) -> Result<Vec<Option<u64>>, ReadError> {
     let asked = &asked(heap, answer)?;
     let nodes = &answer.nodes;

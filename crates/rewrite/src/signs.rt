@@ -86,9 +86,8 @@ pub fn pair_at(signs: &[u64], pairing: Pairing) -> Option<Paired<'_>>
     ensures { Pairs signs.now pairing result }
 {
     let next = next_operator(signs)?;
-    match (next.operator, pairing) {
-        (Operator::Two(Pairing::Product), Pairing::Product)
-        | (Operator::Two(Pairing::Union), Pairing::Union) => Some(Paired {
+    match next.operator {
+        Operator::Two(found) if found == pairing => Some(Paired {
             sign: &signs[..SIGNS],
             rest: next.rest,
         }),

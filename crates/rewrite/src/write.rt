@@ -2,8 +2,10 @@
 ghost use Rattle.std.specs.Prelude.{◌≡◌, ℕ, ◌≤◌, List, ◌++◌, length, drop};
 ghost use Rattle.rewrite.specs.Written.{together, Counts, Puts};
 
+use query::{MAX_OPERATORS, SIGNS};
+
 /// How many numbers a query has at most.
-const MAX_SIGNS: usize = 96;
+const MAX_SIGNS: usize = SIGNS * MAX_OPERATORS;
 
 /// How many numbers the parts have, if there are at most `room`.
 fn length_within(parts: &[&[u64]], room: usize) -> Option<usize>

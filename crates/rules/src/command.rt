@@ -39,15 +39,14 @@ fn taken_out(heap: Global, words: &[String]) -> Result<Vec<Setting>, ArgumentErr
         .try_collect(heap)
 }
 
-/// A rule with the values that some words give.
+/// A rule with the values that some settings give.
 fn ruled(
     heap: Global,
     rule: Rule,
     default: u64,
-    words: &[String],
+    settings: &[Setting],
 ) -> Result<Command, ArgumentError> {
-    let settings = settings(heap, words)?;
-    let values = values(heap, default, settings.as_slice())?;
+    let values = values(heap, default, settings)?;
     Ok(Command { rule, values })
 }
 
@@ -57,24 +56,17 @@ pub fn read_command(heap: Global, words: &[String]) -> Result<Command, ArgumentE
         return Err(ArgumentError::UnknownRule);
     };
     match name.as_str() {
-        "count" => ruled(heap, Rule::Count, 1, rest),
-        "price" => ruled(heap, Rule::Price, 0, rest),
-        "sets" => ruled(heap, Rule::Sets, u64::MAX, rest),
+        "count" => ruled(heap, Rule::Count, 1, &settings(heap, rest)?),
+        "price" => ruled(heap, Rule::Price, 0, &settings(heap, rest)?),
+        "sets" => ruled(heap, Rule::Sets, u64::MAX, &settings(heap, rest)?),
         "level" => {
             let [top, rest @ ..] = rest else {
                 return Err(ArgumentError::NoTop);
             };
             let top = number(top.as_str())?;
-            ruled(heap, Rule::Level(top), top, rest)
+            ruled(heap, Rule::Level(top), top, &settings(heap, rest)?)
         }
-        "without" => {
-            let settings = taken_out(heap, rest)?;
-            let values = values(heap, 1, settings.as_slice())?;
-            Ok(Command {
-                rule: Rule::Count,
-                values,
-            })
-        }
+        "without" => ruled(heap, Rule::Count, 1, &taken_out(heap, rest)?),
         _ => Err(ArgumentError::UnknownRule),
     }
 }

@@ -28,7 +28,7 @@ pub enum ArgumentError {
     NoMark,
 }
 
-// By hand: a derived `From` does not say which error it makes, and clauses name it.
+// By hand: a derived `From` does not say which error it makes, as these two promise.
 impl From<AllocError> for ArgumentError {
     ghost from_gives = { λ _ r. r ≡ NoMemory };
 

@@ -102,6 +102,8 @@ fn pick<V: Copy>(heap: Global, done: &[V], asked: &[u64]) -> Result<Vec<V>, Allo
 
 /// What each of the nodes asked for is worth in a semiring, if the mark k is worth `values[k]`. The store is gone through once for all of
 /// them, and only the nodes that they need are evaluated.
+// Nodes, asked and values stay parameters, here and in the four that call this: no clause ties them, and a struct of them would be made
+// for one call and taken apart at once.
 pub fn read<S: Semiring>(
     heap: Global,
     semiring: &S,

@@ -12,6 +12,7 @@ mod rows;
 pub use decoding::decode;
 pub use encoding::encode;
 pub use error::FileError;
+pub use parts::NODE;
 pub use round_trip::reads_back;
 
 // Flat numbers, with a count in front: that is the layout of the stored form.

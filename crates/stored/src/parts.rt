@@ -3,9 +3,11 @@ ghost use Rattle.stored.specs.Reads.{PartCut, PartsCut};
 
 use crate::FileError;
 
+// The stored form's own limit: a part of its layout.
 const MAX_WIDTH: usize = 8;
 
-const NODE: usize = 3;
+/// How many numbers a node takes.
+pub const NODE: usize = 3;
 
 /// An answer as it stands in numbers: how many cells its rows have, and its nodes and its rows with their counts; and the numbers
 /// behind it.

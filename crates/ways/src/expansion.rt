@@ -87,6 +87,7 @@ pub fn ways(heap: Global, nodes: &[u64], node: u64, room: usize) -> Result<Vec<W
         heap,
         numbers: room,
     };
+    // No `From` and no `?`: the refusal tells the room, which the polynomial's error does not hold.
     match (Root { store, node }).normal_form(room) {
         Ok(normal) => Ok(normal.ways),
         Err(PolynomialError::Memory) => Err(WaysError::Memory),
