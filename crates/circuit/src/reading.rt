@@ -51,14 +51,10 @@ pub(crate) fn holds(nodes: &[u64], node: Node, place: u64) -> bool
 pub fn check_store(nodes: &[u64]) -> Result<Store<'_>, BadNode>
     ensures { MatchResult result (λ x. (x.nodes.now ≡ nodes.now) × (Sound nodes.now)) (λ e. Amiss nodes.now e.place) }
 {
-    let Some(count) = nodes.first() else {
-        return Err(BadNode { place: 0 });
-    };
+    let count = nodes.first().ok_or(BadNode { place: 0 })?;
     // By place, and no chunks: the count may say more nodes than the memory holds, and the place of the first that is missing is told.
     for place in 0..*count {
-        if node_at(nodes, place).is_none() {
-            return Err(BadNode { place });
-        }
+        node_at(nodes, place).ok_or(BadNode { place })?;
     }
     Ok(Store { nodes })
 }
