@@ -99,6 +99,35 @@ fn ships_and_holders(rt: HostRuntime) {
     );
 }
 
+/// 24 rows of one column, which are 1 and 0 in turn: 12 rows of each come together.
+const TURNS: [u64; 27] = [
+    1, 24, 1, 1, 0, 1, 0, 1, 0, 1, 0, 1, 0, 1, 0, 1, 0, 1, 0, 1, 0, 1, 0, 1, 0, 1, 0,
+];
+
+#[test]
+fn equal_rows_are_joined_in_their_order(rt: HostRuntime) {
+    let (mut work, mut nodes, mut out) = ([0; 216], [9; 151], [9; 217]);
+    let signs = [0; 6];
+    assert_eq!(rt; ask(&TURNS, &signs, &mut work, &mut nodes, &mut out), Ok(2));
+    assert_eq!(rt;
+        [out[0], out[1], out[2], out[3], out[4], out[5]],
+        [2, 34, 0, 45, 1, 9]
+    );
+    assert_eq!(rt;
+        nodes[0],
+        46,
+        "a node for each mark, and one for each row less"
+    );
+    assert_eq!(rt; [nodes[73], nodes[74], nodes[75]], [3, 1, 3], "1 or 3");
+    assert_eq!(rt; [nodes[76], nodes[77], nodes[78]], [3, 24, 5], "and so on");
+    assert_eq!(rt; [nodes[106], nodes[107], nodes[108]], [3, 0, 2], "0 or 2");
+    assert_eq!(rt;
+        [nodes[136], nodes[137], nodes[138]],
+        [3, 44, 22],
+        "up to 22"
+    );
+}
+
 #[test]
 fn no_row_passes(rt: HostRuntime) {
     let (mut work, mut nodes, mut out) = ([0; 36], [9; 31], [9; 37]);

@@ -19,6 +19,7 @@ const MANY: usize = 8192;
 const NONE: Entry<'static> = Entry {
     cells: &[],
     node: 0,
+    place: 0,
 };
 
 /// Gathers rows by way of `entries`, of which there are enough.
@@ -36,7 +37,8 @@ fn gather_by<'a>(
 {
     let entries = &mut entries[0..batch.rows.count];
     load(batch, entries);
-    entries.sort_unstable_by_key(|entry| entry.cells);
+    // By place where cells are equal: rows that come together are joined in the order in which they came about.
+    entries.sort_unstable_by_key(|entry| (entry.cells, entry.place));
     let count = merge(entries, batch.rows.width, circuit, out);
     out[0] = count as u64;
     count

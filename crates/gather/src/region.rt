@@ -5,11 +5,12 @@ ghost use Rattle.gather.specs.Gathered.{answer_of, region_rows};
 use crate::batch::Batch;
 use rows::SPAN;
 
-/// A row of a work row: its cells that count, and its node.
+/// A row of a work row: its cells that count, its node, and which of the rows that are gathered it is, from 0.
 #[derive(Clone, Copy)]
 pub struct Entry<'a> {
     pub cells: &'a [u64],
     pub node: u64,
+    pub place: usize,
 }
 
 /// Makes `entries` the rows of a batch.
@@ -22,6 +23,7 @@ pub fn load<'a>(batch: Batch<'a>, entries: &mut [Entry<'a>])
         entries[i] = Entry {
             cells: &row[1..1 + batch.rows.width],
             node: row[0],
+            place: i,
         };
     }
 }

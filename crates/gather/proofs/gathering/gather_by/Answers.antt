@@ -27,7 +27,7 @@ merge-count-requires c =
     let first : ℕ = 9 * c.args.batch.rows.first in
     let left : length (drop first c.args.batch.work.now) ≡ length c.args.batch.work.now - first = length-drop first c.args.batch.work.now in
     record {
-      order = in_order c.sort_unstable_by_key.new.self _ refl (c.sort_unstable_by_key.ensures.sorted (λ (e : Entry). e.cells) (answers_always _ _ _ (λ f a r g h. search rules)));
+      order = in_order c.sort_unstable_by_key.new.self _ refl (c.sort_unstable_by_key.ensures.sorted (λ (e : Entry). (e.cells, e.place)) (answers_always _ _ _ (λ f a r g h. search rules)));
       wide = wide_same _ _ same _ (wide_apart 9 c.args.batch.rows.width c.args.batch.rows.count (drop first c.args.batch.work.now) (omega arith) (omega arith));
       ready = ready_same _ _ same _ _ _ c.requires.ready;
     }

@@ -12,10 +12,10 @@ long es = length-map es answer_of
 
 -- entry i, as the code reads it, and its row
 abbrev entry_at : List Entry → ℕ → Entry
-entry_at es i = get_or es i (record { cells = record { ref_ptr = (0, 0); now = [] }; node = 0 })
+entry_at es i = get_or es i (record { cells = record { ref_ptr = (0, 0); now = [] }; node = 0; place = 0 })
 
 row_is : (es : List Entry) (i : ℕ) → i < length es → answer_of (entry_at es i) ≡ get_or (map answer_of es) i (record { row = []; node = 0 })
-row_is es i h = sym (get_or-map answer_of es i (record { cells = record { ref_ptr = (0, 0); now = [] }; node = 0 }) (record { row = []; node = 0 }) h)
+row_is es i h = sym (get_or-map answer_of es i (record { cells = record { ref_ptr = (0, 0); now = [] }; node = 0; place = 0 }) (record { row = []; node = 0 }) h)
 
 -- the entries behind the first
 next_is : (es : List Entry) (i : ℕ) → i + 1 < length es → answer_of (entry_at (take (length es - 1) (drop 1 es)) i) ≡ get_or (map answer_of es) (i + 1) (record { row = []; node = 0 })
