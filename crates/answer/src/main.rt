@@ -67,13 +67,13 @@ fn answer(
                 place: refusal.place() as u64,
             })?;
         }
-        Ok(_) => {
+        Ok(count) => {
             let width = parse(tables, signs).unwrap_or(0);
-            let answer = kept(heap, width, &nodes, &out)?;
-            for row in answer.rows() {
-                rt.println(row_line(heap, &answer.nodes, row)?)?;
+            // Printed before the answer is copied to be stored: where there is no memory for the copy, its rows still stand in print.
+            for row in out[1..].chunks(width.saturating_add(1)).take(count) {
+                rt.println(row_line(heap, &nodes, row)?)?;
             }
-            answers.push(answer)?;
+            answers.push(kept(heap, width, &nodes, &out)?)?;
         }
     }
     Ok(())
