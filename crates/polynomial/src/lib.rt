@@ -16,7 +16,7 @@ pub use error::PolynomialError;
 pub use room::Room;
 
 /// One way in which a row comes about: the marks that it uses, rising, a mark as often as it is used, and how often that way occurs.
-#[derive(Clone, Drop)]
+#[derive(Drop)]
 pub struct Way {
     pub count: u64,
     pub marks: Vec<u64>,
