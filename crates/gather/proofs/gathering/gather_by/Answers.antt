@@ -6,7 +6,7 @@ use Rattle.std.proofs.lemmas.List.Sums.{sum_by-cons}
 use Rattle.provenance.specs.Answer.{Answer}
 use Rattle.gather.specs.declared.region.Entry.{Entry}
 use Rattle.gather.specs.Gathered.{answer_of}
-use Rattle.gather.proofs.Ordering.{in_order}
+use Rattle.gather.proofs.Ordering.{in_order, by_cells}
 use Rattle.gather.proofs.Together.{SameSums}
 use Rattle.gather.proofs.Whole.{wide_apart, wide_same, ready_same, written}
 use Rattle.gather.proofs.gathering.gather_by.Goals as goal
@@ -27,7 +27,7 @@ merge-count-requires c =
     let first : ℕ = 9 * c.args.batch.rows.first in
     let left : length (drop first c.args.batch.work.now) ≡ length c.args.batch.work.now - first = length-drop first c.args.batch.work.now in
     record {
-      order = in_order c.sort_unstable_by_key.new.self _ refl (c.sort_unstable_by_key.ensures.sorted (λ (e : Entry). (e.cells, e.place)) (answers_always _ _ _ (λ f a r g h. search rules)));
+      order = in_order c.sort_unstable_by_key.new.self _ refl (by_cells c.sort_unstable_by_key.new.self _ (c.sort_unstable_by_key.ensures.sorted (λ (e : Entry). (e.cells, e.place)) (answers_always _ _ _ (λ f a r g h. search rules))));
       wide = wide_same _ _ same _ (wide_apart 9 c.args.batch.rows.width c.args.batch.rows.count (drop first c.args.batch.work.now) (omega arith) (omega arith));
       ready = ready_same _ _ same _ _ _ c.requires.ready;
     }
